@@ -1,0 +1,4 @@
+pub mod ByteOrder
+pub mod Packed
+pub mod Orders
+pub mod KindLaws
