@@ -1,0 +1,3 @@
+pub mod Fractions
+pub mod Rounding
+pub mod Rescaling
