@@ -13,8 +13,9 @@ use Rattle.keys.specs.Relations.{turned, Related, AtOrBefore}
 use Rattle.keys.specs.Laws.{Lawful, Counts}
 use Rattle.keys.specs.Texts.{text-relation}
 use Rattle.keys.specs.Kinds.{whole-relation, whole-size, mixed-relation, mixed-size}
+use Rattle.keys.proofs.NoValue.{no-value}
 use Rattle.keys.proofs.ByteOrder.{word-relation, as-words}
-use Rattle.keys.proofs.Orders.{numbers, words, held, uncounted, no-size}
+use Rattle.keys.proofs.Orders.{numbers, words, held, uncounted}
 
 pub whole : Lawful whole-relation whole-size
 whole = held (λ (x : Whole). x .0) (λ (n : ℤ). record { 0 = n }) (λ x. refl) (λ n. refl) numbers
@@ -61,15 +62,15 @@ before (Text s) (Text t) (Text u) h k = texts .before s t u h k
 
 sized : (x y : Mixed) (n : ℕ) → mixed-size x y ≡ Some n → AtOrBefore (mixed-relation x y)
 sized (Number a) (Number b) n h = numbers .sized a b n h
-sized (Number a) (Text t) n h = no-size h
-sized (Text s) (Number b) n h = no-size h
-sized (Text s) (Text t) n h = no-size h
+sized (Number a) (Text t) n h = no-value h
+sized (Text s) (Number b) n h = no-value h
+sized (Text s) (Text t) n h = no-value h
 
 fits : (x y : Mixed) (n : ℕ) → mixed-size x y ≡ Some n → n < 2 ^ 64
 fits (Number a) (Number b) n h = numbers .fits a b n h
-fits (Number a) (Text t) n h = no-size h
-fits (Text s) (Number b) n h = no-size h
-fits (Text s) (Text t) n h = no-size h
+fits (Number a) (Text t) n h = no-value h
+fits (Text s) (Number b) n h = no-value h
+fits (Text s) (Text t) n h = no-value h
 
 -- the values between two numbers are numbers
 counts : (x y : Mixed) (n : ℕ) → mixed-size x y ≡ Some n → Counts mixed-relation x y n
@@ -85,9 +86,9 @@ counts (Number a) (Number b) n h =
         | Text y ↦ λ p q. elim p [ ]
       ];
     }
-counts (Number a) (Text t) n h = no-size h
-counts (Text s) (Number b) n h = no-size h
-counts (Text s) (Text t) n h = no-size h
+counts (Number a) (Text t) n h = no-value h
+counts (Text s) (Number b) n h = no-value h
+counts (Text s) (Text t) n h = no-value h
 
 pub mixed : Lawful mixed-relation mixed-size
 mixed = record { same = same; equal = equal; turns = turns; families = families; before = before; sized = sized; fits = fits; counts = counts }

@@ -1,3 +1,4 @@
+pub mod NoValue
 pub mod ByteOrder
 pub mod Packed
 pub mod Orders

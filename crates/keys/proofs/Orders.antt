@@ -12,11 +12,8 @@ use Rattle.keys.specs.declared.Relation.{Relation}
 use Rattle.keys.specs.Relations.{AtOrBefore}
 use Rattle.keys.specs.Laws.{Lawful, Counts}
 use Rattle.keys.specs.Numbers.{number-relation, number-size}
+use Rattle.keys.proofs.NoValue.{no-value}
 use Rattle.keys.proofs.ByteOrder.{word-relation}
-
--- a range without a size has no size to speak of
-pub no-size : {X : Type 0} {n : ℕ} → _≡_ {A = Option ℕ} None (Some n) → X
-no-size e = let z : _≡_ {A = ℕ} 0 1 = cc in let f : ⊥ = omega arith in elim f [ ]
 
 abbrev pub uncounted : {K : Type 0} → K → K → Option ℕ
 uncounted low high = None
@@ -71,9 +68,9 @@ words = record {
   turns = λ x y. grind (arith, tells);
   families = λ x y z h k. grind (arith, tells);
   before = λ x y z h k. grind (arith, tells);
-  sized = λ low high n h. no-size h;
-  fits = λ low high n h. no-size h;
-  counts = λ low high n h. no-size h;
+  sized = λ low high n h. no-value h;
+  fits = λ low high n h. no-value h;
+  counts = λ low high n h. no-value h;
 }
 
 -- a kind whose values hold those of another, one to one, has its laws

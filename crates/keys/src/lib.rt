@@ -11,10 +11,19 @@ mod numbers;
 mod texts;
 
 pub use kinds::Mixed;
+pub use kinds::MixedDebug;
+pub use kinds::MixedEq;
 pub use kinds::MixedKey;
+pub use kinds::MixedPartialEq;
 pub use kinds::Whole;
+pub use kinds::WholeDebug;
+pub use kinds::WholeEq;
 pub use kinds::WholeKey;
+pub use kinds::WholePartialEq;
 pub use texts::ShortText;
+pub use texts::ShortTextDebug;
+pub use texts::ShortTextEq;
+pub use texts::ShortTextPartialEq;
 
 /// How a value stands to another.
 #[derive(Clone, Copy, PartialEq, Eq, Debug)]

@@ -1,8 +1,8 @@
 -- What the operations on a Precision answer. Assumes nothing.
-use mathlib.Core.Bool.{cond}
+use mathlib.Core.Bool.{Bool, true, cond}
 use mathlib.Core.List.{List, [], _∷_}
-use Prim.Native.Nat.{ℕ, _+_, _-_, _^_, min}
-use lib.Dec.{ltb}
+use Prim.Native.Nat.{ℕ, _+_, _-_, _^_, _≤_, min}
+use lib.Dec.{leb, ltb}
 use Rattle.std.specs.declared.option.Option.{Option}
 use Rattle.std.specs.declared.option.Option.the-variants.{Some, None}
 use Rattle.std.specs.Written.{then}
@@ -41,6 +41,30 @@ stopping Absent = Absent
 
 abbrev pub total : Precision ℕ → Precision ℕ → Precision ℕ
 total p q = stopping (both _+_ p q)
+
+-- a count above n becomes Inexact n
+abbrev pub capped : ℕ → Precision ℕ → Precision ℕ
+capped n (Exact v) = cond (leb v n) (Exact v) (Inexact n)
+capped n (Inexact v) = cond (leb v n) (Inexact v) (Inexact n)
+capped n Absent = Absent
+
+-- the value, and 0 for Absent
+abbrev pub or-zero : Precision ℕ → ℕ
+or-zero (Exact v) = v
+or-zero (Inexact v) = v
+or-zero Absent = 0
+
+-- a present value is at most n
+abbrev pub AtMost : ℕ → Precision ℕ → Type 0
+AtMost n (Exact v) = v ≤ n
+AtMost n (Inexact v) = v ≤ n
+AtMost n Absent = Unit {0}
+
+-- the same, as a test
+abbrev pub at-most : ℕ → Precision ℕ → Bool
+at-most n (Exact v) = leb v n
+at-most n (Inexact v) = leb v n
+at-most n Absent = true
 
 -- the bytes of =5, ~5 and -
 abbrev pub shown-as : {T : Type 0} → (T → Option (List ℕ)) → Precision T → Option (List ℕ)

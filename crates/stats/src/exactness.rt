@@ -1,7 +1,7 @@
 //! Values together with what is known of their exactness.
 ghost use mathlib.Core.Path.{_≡_};
 ghost use Prim.Native.Nat.{max, min, _-_};
-ghost use Rattle.stats.specs.Precisions.{inexact, known, both, paired, total, shown-as};
+ghost use Rattle.stats.specs.Precisions.{inexact, known, both, paired, total, capped, at-most, or-zero, shown-as};
 use std::fmt;
 
 /// A value that is exact, or only an estimate, or not known at all.
@@ -91,6 +91,40 @@ impl Precision<u64> {
             Precision::Exact((a, b)) => Precision::Exact(a.saturating_sub(b)),
             Precision::Inexact((a, b)) => Precision::Inexact(a.saturating_sub(b)),
             Precision::Absent => Precision::Absent,
+        }
+    }
+}
+
+impl Precision<u64> {
+    /// A count above `most` becomes Inexact `most`.
+    pub fn capped_at(self, most: u64) -> Precision<u64>
+        ensures { λ r. ⌜ r ≡ capped most self ⌝ }
+    {
+        match self {
+            Precision::Exact(count) | Precision::Inexact(count) if count > most => {
+                Precision::Inexact(most)
+            }
+            kept => kept,
+        }
+    }
+
+    /// Whether a present count is at most `most`.
+    pub fn is_at_most(self, most: u64) -> bool
+        ensures { λ r. ⌜ r ≡ at-most most self ⌝ }
+    {
+        match self {
+            Precision::Exact(count) | Precision::Inexact(count) => count <= most,
+            Precision::Absent => true,
+        }
+    }
+
+    /// The count, an Absent one counting 0.
+    pub fn or_zero(self) -> u64
+        ensures { λ r. ⌜ r ≡ or-zero self ⌝ }
+    {
+        match self {
+            Precision::Exact(count) | Precision::Inexact(count) => count,
+            Precision::Absent => 0,
         }
     }
 }

@@ -1,5 +1,12 @@
 //! Precision by example.
 use super::*;
+use keys::Mixed;
+use keys::MixedKey;
+use keys::ShortText;
+use keys::Whole;
+use keys::WholeDebug;
+use keys::WholeKey;
+use keys::WholePartialEq;
 use std::test::*;
 
 const NONE: Precision<u64> = Precision::Absent;
@@ -69,4 +76,98 @@ fn exactness_shows(rt: LibcRuntime) -> Result<(), Fail> {
         NONE
     )?;
     check_eq(shown.as_str(), "=12 ~0 -")
+}
+
+fn column(nulls: Precision<u64>, distincts: Precision<u64>) -> ColumnStatistics<Whole> {
+    ColumnStatistics {
+        null_count: nulls,
+        distinct_count: distincts,
+        ..ColumnStatistics::unknown()
+    }
+}
+
+fn ends(low: Mixed, high: Mixed) -> ColumnStatistics<Mixed> {
+    ColumnStatistics {
+        min_value: Precision::Exact(low),
+        max_value: Precision::Inexact(high),
+        ..ColumnStatistics::unknown()
+    }
+}
+
+#[test]
+fn trim_holds_counts_under_the_rows() -> Result<(), Fail> {
+    let ten = Precision::Exact(10);
+    let given = column(Precision::Exact(4), Precision::Exact(9));
+    check_eq(
+        given.trim(ten),
+        column(Precision::Exact(4), Precision::Inexact(6)),
+    )?;
+    check_eq(given.trim(Precision::Absent), given)?;
+    check_eq(
+        column(NONE, Precision::Exact(10)).trim(ten),
+        column(NONE, Precision::Exact(10)),
+    )
+}
+
+#[test]
+fn ends_decide_whether_a_column_is_lawful() -> Result<(), Fail> {
+    let text = Mixed::Text(ShortText::from_bytes(*b"payments"));
+    check(ends(Mixed::Number(3), Mixed::Number(3)).is_lawful())?;
+    check(!ends(Mixed::Number(4), Mixed::Number(3)).is_lawful())?;
+    check(!ends(Mixed::Number(3), text).is_lawful())?;
+    check(column(NONE, NONE).is_lawful())
+}
+
+#[test]
+fn limits_are_inside() -> Result<(), Fail> {
+    let most = Precision::Exact(MAX_COUNT);
+    check(column(most, most).is_within_limits())?;
+    check(!column(Precision::Inexact(MAX_COUNT + 1), NONE).is_within_limits())?;
+    check(!column(NONE, Precision::Exact(MAX_COUNT + 1)).is_within_limits())
+}
+
+#[test]
+fn scaling_rounds_up_and_never_wraps() -> Result<(), Fail> {
+    let one = Precision::Exact(1);
+    let most = Precision::Exact(u64::MAX);
+    check_eq(scale_subset_count(one, 1_000_000, 1), Precision::Inexact(1))?;
+    check_eq(scale_subset_count(one, 0, 1), Precision::Inexact(0))?;
+    check_eq(
+        scale_subset_count(most, u64::MAX, u64::MAX),
+        Precision::Inexact(u64::MAX),
+    )?;
+    check_eq(scale_subset_count(most, 1, 2), NONE)?;
+    check_eq(scale_subset_count(NONE, 3, 2), NONE)
+}
+
+#[test]
+fn distincts_come_from_what_is_known() -> Result<(), Fail> {
+    let rows = Precision::Exact(100);
+    let numbers = ends(Mixed::Number(1), Mixed::Number(12));
+    check_eq(max_distinct_count(rows, &numbers), Precision::Inexact(12))?;
+    check_eq(max_distinct_count(NONE, &numbers), Precision::Inexact(12))?;
+    check_eq(
+        max_distinct_count(rows, &column(NONE, NONE)),
+        Precision::Inexact(100),
+    )?;
+    check_eq(
+        max_distinct_count(rows, &column(Precision::Exact(1), Precision::Exact(300))),
+        Precision::Inexact(100),
+    )
+}
+
+#[test]
+fn bytes_follow_the_rows() -> Result<(), Fail> {
+    let (bytes, ten) = (Precision::Exact(25), Precision::Exact(10));
+    check_eq(
+        rescale_byte_size(bytes, ten, Precision::Exact(5)),
+        Precision::Inexact(13),
+    )?;
+    check_eq(rescale_byte_size(bytes, ten, ten), bytes)?;
+    check_eq(
+        rescale_byte_size(bytes, ten, Precision::Inexact(10)),
+        Precision::Inexact(25),
+    )?;
+    check_eq(rescale_byte_size(bytes, Precision::Exact(0), ten), bytes)?;
+    check_eq(rescale_byte_size(bytes, NONE, ten), bytes)
 }

@@ -1,0 +1,4 @@
+pub mod Trims
+pub mod Scales
+pub mod Known
+pub mod Rescales
