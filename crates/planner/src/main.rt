@@ -1,50 +1,69 @@
-//! Adds up and compares the payment tables of a cooperative's houses.
-ghost use mathlib.Core.Path.{_≡_};
-ghost use Rattle.keys.specs.Kinds.{whole-size};
-ghost use Rattle.planner.specs.Tables.{counted};
-
+//! Looks through the payment tables of a cooperative's houses: adds up their
+//! rows, trims what is known of their payers, and sizes a part of each table.
 mod tables;
 
-use keys::Key;
 use keys::Whole;
 use keys::WholeKey;
+use stats::ColumnStatistics;
+use stats::ColumnStatisticsClone;
 use stats::Precision;
 use stats::PrecisionDisplay;
+use stats::max_distinct_count;
 use std::alloc::Global;
 use std::io;
+use tables::first_rows;
 use tables::total_rows;
 
-/// A house's payment table: its rows, and the first and last payment number.
+/// A house's payment table. Each payment has the number of its payer.
 #[derive(Clone, Copy)]
 struct Payments {
     house: &'static str,
     rows: Precision<u64>,
-    first: Whole,
-    last: Whole,
+    bytes: Precision<u64>,
+    payer: ColumnStatistics<Whole>,
 }
 
-/// The numbers from first to last, if they can be counted.
-fn numbers(payments: &Payments) -> Precision<u64>
-    ensures { λ r. ⌜ r ≡ counted (whole-size (now (payments .entry) .first) (now (payments .entry) .last)) ⌝ }
-{
-    match WholeKey::range_size(payments.first, payments.last) {
-        Some(count) => Precision::Exact(count),
-        None => Precision::Absent,
+fn known_payers(
+    nulls: Precision<u64>,
+    distincts: Precision<u64>,
+    low: i64,
+    high: i64,
+) -> ColumnStatistics<Whole> {
+    ColumnStatistics {
+        null_count: nulls,
+        distinct_count: distincts,
+        byte_size: Precision::Absent,
+        min_value: Precision::Exact(Whole(low)),
+        max_value: Precision::Exact(Whole(high)),
     }
 }
 
-fn print_table(rt: &LibcRuntime, heap: Global, payments: &Payments) -> io::Result<()> {
-    let house = payments.house;
-    let rows = payments.rows.to_string(heap)?;
-    let first = payments.first.0;
-    let last = payments.last.0;
-    let count = numbers(payments).to_string(heap)?;
-    println!(rt, "{house:<24}{rows:>10}{first:>10}{last:>10}{count:>10}")
+fn print_table(rt: &LibcRuntime, heap: Global, table: &Payments) -> io::Result<()> {
+    let payer = table.payer.trim(table.rows);
+    let house = table.house;
+    let rows = table.rows.to_string(heap)?;
+    let bytes = table.bytes.to_string(heap)?;
+    let nulls = payer.null_count.to_string(heap)?;
+    let payers = payer.distinct_count.to_string(heap)?;
+    let most = max_distinct_count(table.rows, &payer).to_string(heap)?;
+    println!(
+        rt,
+        "{house:<24}{rows:>9}{bytes:>9}{nulls:>9}{payers:>9}{most:>9}"
+    )
+}
+
+fn print_part(rt: &LibcRuntime, heap: Global, table: &Payments) -> io::Result<()> {
+    let house = table.house;
+    let part = first_rows(table.rows, table.bytes, table.payer.null_count, 500);
+    let rows = part.rows.to_string(heap)?;
+    let bytes = part.bytes.to_string(heap)?;
+    let nulls = part.nulls.to_string(heap)?;
+    println!(rt, "{house:<24}{rows:>9}{bytes:>9}{nulls:>9}")
 }
 
 fn print_rows(rt: &LibcRuntime, heap: Global, label: &str, rows: Precision<u64>) -> io::Result<()> {
     let rows = rows.to_string(heap)?;
-    println!(rt, "{label:<24}{rows:>10}")
+    println!(rt, "{label:<24}{rows:>9}")
 }
 
 fn main(rt: LibcRuntime) -> io::Result<()> {
@@ -52,29 +71,34 @@ fn main(rt: LibcRuntime) -> io::Result<()> {
     let alder = Payments {
         house: "Alder Court",
         rows: Precision::Exact(1204),
-        first: Whole(1001),
-        last: Whole(2204),
+        bytes: Precision::Exact(48161),
+        payer: known_payers(Precision::Exact(104), Precision::Exact(1150), 1, 900),
     };
     let birch = Payments {
         house: "Birch Row",
         rows: Precision::Inexact(980),
-        first: Whole(1),
-        last: Whole(1100),
+        bytes: Precision::Inexact(39200),
+        payer: known_payers(Precision::Absent, Precision::Absent, 1, 64),
     };
     let cedar = Payments {
         house: "Cedar House",
         rows: Precision::Exact(411),
-        first: Whole(-5),
-        last: Whole(405),
+        bytes: Precision::Absent,
+        payer: known_payers(Precision::Exact(11), Precision::Absent, 1, 5000),
     };
     println!(rt, "= exact, ~ an estimate, - not known")?;
     println!(rt)?;
     println!(
         rt,
-        "payments of                   rows     first      last   numbers"
+        "payments of                  rows    bytes    nulls   payers  at most"
     )?;
-    for payments in [alder, birch, cedar] {
-        print_table(&rt, heap, &payments)?;
+    for table in [alder, birch, cedar] {
+        print_table(&rt, heap, &table)?;
+    }
+    println!(rt)?;
+    println!(rt, "the first 500 of             rows    bytes    nulls")?;
+    for table in [alder, birch, cedar] {
+        print_part(&rt, heap, &table)?;
     }
     let (a, b, c) = (alder.rows, birch.rows, cedar.rows);
     println!(rt)?;
