@@ -1,3 +1,5 @@
 pub mod Fractions
+pub mod Upto
 pub mod Rounding
 pub mod Rescaling
+pub mod Literals

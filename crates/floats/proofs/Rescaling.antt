@@ -5,18 +5,17 @@ use mathlib.Core.Bool.{true, false}
 use Prim.Native.Nat.{ℕ, zero, suc, zero-le, _+_, _*_, _^_, _≤_, _<_}
 use native.Mathlib.Nat.{le-trans, le-of-eq, le-of-lt, lt-of-le-of-lt, le-antisymm, le-refl, one-mul, suc-mul, mul-assoc, mul-left-comm, add-mul, mul-le-mul-right, mul-le-mul-left, mul-le-mul, mul-pos, div-lt-iff-lt-mul, le-div-iff-mul-le, le-of-suc-le-suc}
 use native.Mathlib.Omega.{arith}
-use lib.Dec.{T, le→leb, lit≤, lit<}
-use lib.IntN.{pos}
+use lib.Dec.{lit≤, lit<}
 use lib.Pow.{pow-pos}
-use lib.Ieee.{Float, nan, inf, fin, binary64, up, down, ofInt, inFloat, toUnsigned, round, mul, div}
+use lib.Ieee.{Float, nan, inf, fin, binary64, up, down, toUnsigned, round, mul, div}
 use lib.Ieee.Fits.{down-pos}
 use lib.Ieee.Exact.{HasValue, round-exact}
-use lib.Ieee.Back.{unsigned-back}
 use lib.Ieee.Scale.{grid, round-val}
 use lib.Ieee.Scale.{round-under as not-above}
 use Rattle.std.specs.Floats.{wholeBy, roundAway, halfUp}
 use Rattle.floats.specs.Counts.{float, rescaled}
 use Rattle.floats.proofs.Fractions.{Under, Over, float-value, finite-under, round-under, round-over, mul-at, div-at}
+use Rattle.floats.proofs.Upto.{back}
 use Rattle.floats.proofs.Rounding.{relative-error}
 
 -- ---- halves up: what is within a quarter of b goes to b
@@ -82,14 +81,6 @@ quotient-over b o t O B P q =
     (lower (product b o) (b * o * 2 ^ 1074) (2 ^ 1074) o b t O (lit≤ tt) B q (mul-assoc b o (2 ^ 1074)) (relative-error binary64 (b * o) 1 (lit< tt) .1)))
 
 -- ---- to the whole number
-casts : (n : ℕ) → n ≤ 2 ^ 53 → T (inFloat binary64 (pos n))
-unfolding inFloat
-casts n h = le→leb n (2 ^ 53) h
-
-back : (n : ℕ) → n ≤ 2 ^ 53 → toUnsigned 64 (round binary64 false n 1) ≡ n
-unfolding ofInt
-back n h = unsigned-back binary64 64 n (casts n h) (lt-of-le-of-lt h (lit< tt)) .1
-
 away-upper : (x : Float) (b : ℕ) → b ≤ 2 ^ 39 → Under (4 * b + 1) 4 x → toUnsigned 64 (roundAway binary64 x) ≤ b
 unfolding wholeBy
 away-upper nan b B u = absurd u

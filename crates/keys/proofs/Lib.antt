@@ -3,3 +3,4 @@ pub mod ByteOrder
 pub mod Packed
 pub mod Orders
 pub mod KindLaws
+pub mod OrderLaws

@@ -47,3 +47,6 @@ abbrev pub within-limits : {K : Type 0} → ColumnStatistics K → Bool
 within-limits c =
     at-most max-count (c .«null_count») &&
     (at-most max-count (c .«distinct_count») && at-most max-column-bytes (c .«byte_size»))
+
+abbrev pub sound : {K : Type 0} → (K → K → Relation) → ColumnStatistics K → Bool
+sound relation c = lawful relation c && within-limits c

@@ -1,3 +1,4 @@
+pub mod Every
 pub mod Precisions
 pub mod Limits
 pub mod Columns

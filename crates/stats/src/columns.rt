@@ -1,6 +1,7 @@
 //! What is known of a column's values.
 ghost use mathlib.Core.Path.{_≡_};
-ghost use Rattle.stats.specs.Columns.{unknown-column, column-inexact, lawful, within-limits};
+ghost use Rattle.stats.specs.Columns.{unknown-column, column-inexact, lawful, within-limits, sound};
+ghost use Rattle.stats.specs.Every.{every};
 ghost use Rattle.stats.specs.Trim.{trimmed, Trims};
 use crate::Precision;
 use crate::exactness::PrecisionClone;
@@ -71,6 +72,13 @@ impl<K: Key> ColumnStatistics<K> {
             && self.byte_size.is_at_most(MAX_COLUMN_BYTES)
     }
 
+    /// Whether the column is lawful and its counts are inside the limits.
+    pub fn is_sound(&self) -> bool
+        ensures { λ r. ⌜ r ≡ sound relation (now (self .entry)) ⌝ }
+    {
+        self.is_lawful() && self.is_within_limits()
+    }
+
     /// Trims to a table's rows: nulls are at most the rows, and distinct values
     /// at most the rows that are not null. Absent rows trim nothing.
     pub fn trim(self, rows: Precision<u64>) -> ColumnStatistics<K>
@@ -88,4 +96,16 @@ impl<K: Key> ColumnStatistics<K> {
             ..self
         }
     }
+}
+
+/// Whether every column is sound.
+pub fn all_sound<K: Key>(columns: &[ColumnStatistics<K>]) -> bool
+    ensures { λ r. ⌜ r ≡ every (sound relation) (now (columns .entry)) ⌝ }
+{
+    for column in columns {
+        if !column.is_sound() {
+            return false;
+        }
+    }
+    true
 }

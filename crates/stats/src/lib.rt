@@ -13,6 +13,7 @@ pub use columns::ColumnStatisticsClone;
 pub use columns::ColumnStatisticsDebug;
 pub use columns::ColumnStatisticsEq;
 pub use columns::ColumnStatisticsPartialEq;
+pub use columns::all_sound;
 pub use distincts::max_distinct_count;
 pub use exactness::Precision;
 pub use exactness::PrecisionClone;
