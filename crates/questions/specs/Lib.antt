@@ -1,0 +1,4 @@
+pub mod Types
+pub mod Figures
+pub mod Questions
+pub mod Laws
