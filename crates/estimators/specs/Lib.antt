@@ -1,0 +1,9 @@
+pub mod Answerable
+pub mod KeyColumns
+pub mod Zeros
+pub mod Disjoint
+pub mod Widest
+pub mod Semi
+pub mod WidestFigures
+pub mod Product
+pub mod Bounds

@@ -1,0 +1,61 @@
+//! Questions that have a figure at all.
+ghost use mathlib.Core.Path.{_≡_};
+ghost use lib.ListN.{length};
+ghost use Rattle.stats.specs.Every.{every};
+ghost use Rattle.questions.specs.Questions.{asked, input};
+ghost use Rattle.estimators.specs.Answerable.{key-inside, pair-inside, input-sound, answerable};
+use keys::Key;
+use questions::JoinInput;
+use questions::JoinQuestion;
+use questions::KeyPair;
+use questions::KeySide;
+use questions::MAX_PAIRS;
+use stats::MAX_COUNT;
+use stats::all_sound;
+
+fn is_key_inside(width: usize, key: KeySide) -> bool
+    ensures { λ r. ⌜ r ≡ key-inside width key ⌝ }
+{
+    match key {
+        KeySide::Column(index) => index < width,
+        KeySide::Expression => true,
+    }
+}
+
+fn is_pair_inside(left: usize, right: usize, pair: KeyPair) -> bool
+    ensures { λ r. ⌜ r ≡ pair-inside left right pair ⌝ }
+{
+    is_key_inside(left, pair.left) && is_key_inside(right, pair.right)
+}
+
+fn are_pairs_inside(left: usize, right: usize, on: &[KeyPair]) -> bool
+    ensures { λ r. ⌜ r ≡ every (pair-inside left right) (now (on .entry)) ⌝ }
+{
+    for pair in on {
+        if !is_pair_inside(left, right, *pair) {
+            return false;
+        }
+    }
+    true
+}
+
+fn is_input_sound<K: Key>(table: &JoinInput<'_, K>) -> bool
+    ensures { λ r. ⌜ r ≡ input-sound relation (input (now (table .entry))) ⌝ }
+{
+    table.num_rows.is_at_most(MAX_COUNT) && all_sound(table.columns)
+}
+
+/// Whether a question has at most 16 key pairs, keys inside its tables, counts
+/// inside the limits, and lawful columns.
+pub fn is_answerable<K: Key>(question: &JoinQuestion<'_, '_, '_, K>) -> bool
+    ensures { λ r. ⌜ r ≡ answerable relation (asked (now (question .entry))) ⌝ }
+{
+    question.on.len() <= MAX_PAIRS
+        && are_pairs_inside(
+            question.left.columns.len(),
+            question.right.columns.len(),
+            question.on,
+        )
+        && is_input_sound(&question.left)
+        && is_input_sound(&question.right)
+}
