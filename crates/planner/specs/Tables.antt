@@ -1,6 +1,6 @@
--- Row counts of several tables taken together, and a table's first rows.
--- Assumes nothing.
-use mathlib.Core.List.{List}
+-- Row counts of several tables taken together, a table's first rows, and two
+-- tables joined by their keys. Assumes nothing.
+use mathlib.Core.List.{List, [], _∷_}
 use Prim.Native.Nat.{ℕ, min}
 use Rattle.std.specs.shelf.Lists.{folded}
 use Rattle.stats.specs.declared.exactness.Precision.{Precision}
@@ -8,7 +8,17 @@ use Rattle.stats.specs.declared.exactness.Precision.the-variants.{Exact, Inexac
 use Rattle.stats.specs.Precisions.{both, paired, total}
 use Rattle.stats.specs.Scaling.{scaled}
 use Rattle.stats.specs.Bytes.{rescaled-bytes}
+use Rattle.std.specs.declared.option.Option.{Option}
+use Rattle.std.specs.declared.option.Option.the-variants.{Some, None}
+use Rattle.keys.specs.declared.kinds.Whole.{Whole}
+use Rattle.questions.specs.declared.types.JoinType.{JoinType}
+use Rattle.questions.specs.declared.types.NullEquality.the-variants.{NullEqualsNothing}
+use Rattle.questions.specs.declared.types.KeySide.the-variants.{Column}
+use Rattle.questions.specs.declared.figures.Figure.{Figure}
+use Rattle.questions.specs.Figures.{rows-of}
+use Rattle.questions.specs.Questions.{Question}
 use Rattle.planner.specs.declared.tables.Part.{Part}
+use Rattle.planner.specs.declared.tables.KeyedRows.{KeyedRows}
 
 abbrev pub rows-total : List (Precision ℕ) → Precision ℕ
 rows-total tables = folded total (Exact 0) tables
@@ -23,3 +33,17 @@ abbrev pub first-of : Precision ℕ → Precision ℕ → Precision ℕ → ℕ 
 first-of all size empty most =
     let part = both min all (Exact most) in
     record { rows = part; bytes = rescaled-bytes size all part; nulls = scaled-by empty (paired all part) }
+
+-- the one column of each table is its key
+abbrev pub key-question : JoinType → KeyedRows → KeyedRows → Question Whole
+key-question t l r = record {
+  join-type = t;
+  null-rule = NullEqualsNothing;
+  pairs = record { left = Column 0; right = Column 0 } ∷ [];
+  left = record { rows = l .rows; columns = l .key ∷ [] };
+  right = record { rows = r .rows; columns = r .key ∷ [] };
+}
+
+abbrev pub rows-answered : Option Figure → Precision ℕ
+rows-answered (Some f) = rows-of f
+rows-answered None = Absent

@@ -1,9 +1,17 @@
 //! Looks through the payment tables of a cooperative's houses: adds up their
-//! rows, trims what is known of their payers, and sizes a part of each table.
+//! rows, trims what is known of their payers, sizes a part of each table, and
+//! estimates the joins of one house's members to its payments.
 mod tables;
 
+use estimators::Chain;
+use estimators::ChainEstimator;
+use estimators::Product;
+use estimators::ProductEstimator;
+use estimators::Widest;
+use estimators::WidestEstimator;
 use keys::Whole;
 use keys::WholeKey;
+use questions::JoinType;
 use stats::ColumnStatistics;
 use stats::ColumnStatisticsClone;
 use stats::Precision;
@@ -11,16 +19,29 @@ use stats::PrecisionDisplay;
 use stats::max_distinct_count;
 use std::alloc::Global;
 use std::io;
+use tables::KeyedRows;
 use tables::first_rows;
+use tables::join_rows;
 use tables::total_rows;
 
-/// A house's payment table. Each payment has the number of its payer.
+/// A table of a house: its payments, each with the number of its payer, or its
+/// members, each with their own.
 #[derive(Clone, Copy)]
-struct Payments {
+struct Table {
     house: &'static str,
     rows: Precision<u64>,
     bytes: Precision<u64>,
     payer: ColumnStatistics<Whole>,
+}
+
+impl Table {
+    /// The rows, and the payers trimmed to them.
+    fn keys(&self) -> KeyedRows {
+        KeyedRows {
+            rows: self.rows,
+            key: self.payer.trim(self.rows),
+        }
+    }
 }
 
 fn known_payers(
@@ -38,7 +59,7 @@ fn known_payers(
     }
 }
 
-fn print_table(rt: &LibcRuntime, heap: Global, table: &Payments) -> io::Result<()> {
+fn print_table(rt: &LibcRuntime, heap: Global, table: &Table) -> io::Result<()> {
     let payer = table.payer.trim(table.rows);
     let house = table.house;
     let rows = table.rows.to_string(heap)?;
@@ -52,7 +73,7 @@ fn print_table(rt: &LibcRuntime, heap: Global, table: &Payments) -> io::Result<(
     )
 }
 
-fn print_part(rt: &LibcRuntime, heap: Global, table: &Payments) -> io::Result<()> {
+fn print_part(rt: &LibcRuntime, heap: Global, table: &Table) -> io::Result<()> {
     let house = table.house;
     let part = first_rows(table.rows, table.bytes, table.payer.null_count, 500);
     let rows = part.rows.to_string(heap)?;
@@ -66,21 +87,67 @@ fn print_rows(rt: &LibcRuntime, heap: Global, label: &str, rows: Precision<u64>)
     println!(rt, "{label:<24}{rows:>9}")
 }
 
+fn print_join(
+    rt: &LibcRuntime,
+    heap: Global,
+    label: &str,
+    join_type: JoinType,
+    members: &Table,
+    payments: &Table,
+) -> io::Result<()> {
+    let chain = Chain {
+        first: Widest,
+        second: Product,
+    };
+    let left = members.keys();
+    let right = payments.keys();
+    let widest = join_rows(&Widest, join_type, left, right).to_string(heap)?;
+    let product = join_rows(&Product, join_type, left, right).to_string(heap)?;
+    let either = join_rows(&chain, join_type, left, right).to_string(heap)?;
+    println!(rt, "{label:<24}{widest:>9}{product:>9}{either:>9}")
+}
+
+fn print_joins(
+    rt: &LibcRuntime,
+    heap: Global,
+    members: &Table,
+    payments: &Table,
+) -> io::Result<()> {
+    print_join(rt, heap, "inner", JoinType::Inner, members, payments)?;
+    print_join(rt, heap, "left", JoinType::Left, members, payments)?;
+    print_join(
+        rt,
+        heap,
+        "who paid (semi)",
+        JoinType::LeftSemi,
+        members,
+        payments,
+    )?;
+    print_join(
+        rt,
+        heap,
+        "who did not (anti)",
+        JoinType::LeftAnti,
+        members,
+        payments,
+    )
+}
+
 fn main(rt: LibcRuntime) -> io::Result<()> {
     let heap = rt.alloc();
-    let alder = Payments {
+    let alder = Table {
         house: "Alder Court",
         rows: Precision::Exact(1204),
         bytes: Precision::Exact(48161),
         payer: known_payers(Precision::Exact(104), Precision::Exact(1150), 1, 900),
     };
-    let birch = Payments {
+    let birch = Table {
         house: "Birch Row",
         rows: Precision::Inexact(980),
         bytes: Precision::Inexact(39200),
         payer: known_payers(Precision::Absent, Precision::Absent, 1, 64),
     };
-    let cedar = Payments {
+    let cedar = Table {
         house: "Cedar House",
         rows: Precision::Exact(411),
         bytes: Precision::Absent,
@@ -112,5 +179,22 @@ fn main(rt: LibcRuntime) -> io::Result<()> {
     )?;
     print_rows(&rt, heap, "most of the three", a.max(b).max(c))?;
     print_rows(&rt, heap, "fewest of the three", a.min(b).min(c))?;
-    print_rows(&rt, heap, "Alder over Cedar", a.sub(c))
+    print_rows(&rt, heap, "Alder over Cedar", a.sub(c))?;
+    let members = Table {
+        house: "Alder Court",
+        rows: Precision::Exact(1500),
+        bytes: Precision::Absent,
+        payer: known_payers(Precision::Exact(0), Precision::Exact(1500), 1, 1500),
+    };
+    println!(rt)?;
+    println!(rt, "Alder's members            widest  product    chain")?;
+    print_joins(&rt, heap, &members, &alder)?;
+    println!(rt)?;
+    println!(rt, "numbers apart, no rows     widest  product    chain")?;
+    let unknown = Table {
+        rows: Precision::Absent,
+        payer: known_payers(Precision::Absent, Precision::Absent, 2000, 3000),
+        ..members
+    };
+    print_joins(&rt, heap, &unknown, &birch)
 }

@@ -1,6 +1,18 @@
-//! Row counts of several tables added up, and a table's first rows.
+//! Row counts of several tables added up, a table's first rows, and the rows of
+//! two tables joined.
 ghost use mathlib.Core.Path.{_≡_};
-ghost use Rattle.planner.specs.Tables.{rows-total, first-of};
+ghost use Rattle.planner.specs.Tables.{rows-total, first-of, key-question, rows-answered};
+use keys::Whole;
+use keys::WholeKey;
+use questions::Estimator;
+use questions::JoinInput;
+use questions::JoinQuestion;
+use questions::JoinType;
+use questions::KeyPair;
+use questions::KeySide;
+use questions::NullEquality;
+use stats::ColumnStatistics;
+use stats::ColumnStatisticsClone;
 use stats::Precision;
 use stats::rescale_byte_size;
 use stats::scale_subset_count;
@@ -43,5 +55,44 @@ pub fn first_rows(
             }
             Precision::Absent => Precision::Absent,
         },
+    }
+}
+
+/// A table's rows, and what is known of the column that it is joined by.
+#[derive(Clone, Copy)]
+pub struct KeyedRows {
+    pub rows: Precision<u64>,
+    pub key: ColumnStatistics<Whole>,
+}
+
+/// The estimated rows of two tables joined by their keys.
+pub fn join_rows<E: Estimator<Whole>>(
+    estimator: &E,
+    join_type: JoinType,
+    left: KeyedRows,
+    right: KeyedRows,
+) -> Precision<u64>
+    ensures { λ r. ⌜ r ≡ rows-answered (E·Estimator .figure (now (estimator .entry)) (key-question «join_type» left right)) ⌝ }
+{
+    let on = [KeyPair {
+        left: KeySide::Column(0),
+        right: KeySide::Column(0),
+    }];
+    let question = JoinQuestion {
+        join_type,
+        null_equality: NullEquality::NullEqualsNothing,
+        on: &on,
+        left: JoinInput {
+            num_rows: left.rows,
+            columns: &[left.key],
+        },
+        right: JoinInput {
+            num_rows: right.rows,
+            columns: &[right.key],
+        },
+    };
+    match estimator.estimate(&question) {
+        Some(figure) => figure.to_precision(),
+        None => Precision::Absent,
     }
 }
