@@ -28,7 +28,8 @@ use Rattle.questions.specs.Questions.{Input, Question, mirrored}
 use Rattle.estimators.specs.declared.pairs.KeyColumns.{KeyColumns}
 use Rattle.estimators.specs.KeyColumns.{turned, columns-at, columns-from, keys-from}
 use Rattle.questions.specs.Types.{max-pairs}
-use Rattle.estimators.specs.Answerable.{pair-inside, input-sound, answerable}
+use Rattle.questions.specs.Types.{pair-inside}
+use Rattle.estimators.specs.Answerable.{input-sound, answerable}
 use Rattle.estimators.specs.Zeros.{zero-of, either-zero, or-else}
 use Rattle.estimators.specs.Disjoint.{disjoint}
 use Rattle.estimators.specs.Widest.{max-present, pair-width, widest, nonzero, matching, inner-rows}

@@ -19,7 +19,8 @@ use Rattle.questions.specs.Types.{opposite, exchanged, max-pairs}
 use Rattle.questions.specs.Questions.{Question, mirrored}
 use Rattle.estimators.specs.declared.pairs.KeyColumns.{KeyColumns}
 use Rattle.estimators.specs.KeyColumns.{turned, columns-at, columns-from, keys-from}
-use Rattle.estimators.specs.Answerable.{key-inside, pair-inside, input-sound, answerable}
+use Rattle.questions.specs.Types.{key-inside, pair-inside}
+use Rattle.estimators.specs.Answerable.{input-sound, answerable}
 use Rattle.estimators.proofs.Swaps.{and-swap}
 
 columns-turned : {K : Type 0} (left right : List (ColumnStatistics K)) (a b : KeySide) → columns-at right left b a ≡ turned (columns-at left right a b)

@@ -3,36 +3,21 @@ ghost use mathlib.Core.Path.{_≡_};
 ghost use lib.ListN.{length};
 ghost use Rattle.stats.specs.Every.{every};
 ghost use Rattle.questions.specs.Questions.{asked, input};
-ghost use Rattle.estimators.specs.Answerable.{key-inside, pair-inside, input-sound, answerable};
+ghost use Rattle.questions.specs.Types.{pair-inside};
+ghost use Rattle.estimators.specs.Answerable.{input-sound, answerable};
 use keys::Key;
 use questions::JoinInput;
 use questions::JoinQuestion;
 use questions::KeyPair;
-use questions::KeySide;
 use questions::MAX_PAIRS;
 use stats::MAX_COUNT;
 use stats::all_sound;
-
-fn is_key_inside(width: usize, key: KeySide) -> bool
-    ensures { λ r. ⌜ r ≡ key-inside width key ⌝ }
-{
-    match key {
-        KeySide::Column(index) => index < width,
-        KeySide::Expression => true,
-    }
-}
-
-fn is_pair_inside(left: usize, right: usize, pair: KeyPair) -> bool
-    ensures { λ r. ⌜ r ≡ pair-inside left right pair ⌝ }
-{
-    is_key_inside(left, pair.left) && is_key_inside(right, pair.right)
-}
 
 fn are_pairs_inside(left: usize, right: usize, on: &[KeyPair]) -> bool
     ensures { λ r. ⌜ r ≡ every (pair-inside left right) (now (on .entry)) ⌝ }
 {
     for pair in on {
-        if !is_pair_inside(left, right, *pair) {
+        if !pair.is_inside(left, right) {
             return false;
         }
     }

@@ -1,9 +1,13 @@
 -- Join types by number and mirror; key pairs exchanged. Assumes nothing.
+use mathlib.Core.Bool.{Bool, true, _&&_}
 use Prim.Native.Nat.{ℕ}
+use lib.Dec.{ltb}
 use Rattle.questions.specs.declared.types.JoinType.{JoinType}
 use Rattle.questions.specs.declared.types.JoinType.the-variants.{Inner, Full, Left, Right, LeftSemi, RightSemi, LeftAnti, RightAnti, LeftMark, RightMark}
 use Rattle.questions.specs.declared.types.JoinSide.{JoinSide}
 use Rattle.questions.specs.declared.types.JoinSide.the-variants as side
+use Rattle.questions.specs.declared.types.KeySide.{KeySide}
+use Rattle.questions.specs.declared.types.KeySide.the-variants as key
 use Rattle.questions.specs.declared.types.KeyPair.{KeyPair}
 
 abbrev pub type-number : JoinType → ℕ
@@ -37,6 +41,14 @@ opposite side.Right = side.Left
 
 abbrev pub exchanged : KeyPair → KeyPair
 exchanged p = record { left = p .right; right = p .left }
+
+-- a key that is a column of a table so wide, or an expression
+abbrev pub key-inside : ℕ → KeySide → Bool
+key-inside width (key.Column i) = ltb i width
+key-inside width key.Expression = true
+
+abbrev pub pair-inside : ℕ → ℕ → KeyPair → Bool
+pair-inside left right p = key-inside left (p .left) && key-inside right (p .right)
 
 -- the most pairs or keys that are looked at
 abbrev pub max-pairs : ℕ

@@ -1,6 +1,6 @@
 //! Join types, null rules and keys.
 ghost use mathlib.Core.Path.{_≡_};
-ghost use Rattle.questions.specs.Types.{type-number, mirror, opposite, exchanged};
+ghost use Rattle.questions.specs.Types.{type-number, mirror, opposite, exchanged, key-inside, pair-inside};
 
 /// The most key pairs of a join, and keys of a grouping, that are looked at.
 pub const MAX_PAIRS: usize = 16;
@@ -80,6 +80,18 @@ pub enum KeySide {
     Expression,
 }
 
+impl KeySide {
+    /// Whether the key is a column of a table so wide, or an expression.
+    pub fn is_inside(self, width: usize) -> bool
+        ensures { λ r. ⌜ r ≡ key-inside width self ⌝ }
+    {
+        match self {
+            KeySide::Column(index) => index < width,
+            KeySide::Expression => true,
+        }
+    }
+}
+
 /// Two keys that a join holds equal.
 #[derive(Clone, Copy, PartialEq, Eq, Debug)]
 pub struct KeyPair {
@@ -88,6 +100,13 @@ pub struct KeyPair {
 }
 
 impl KeyPair {
+    /// Whether both keys are inside tables so wide.
+    pub fn is_inside(self, left: usize, right: usize) -> bool
+        ensures { λ r. ⌜ r ≡ pair-inside left right self ⌝ }
+    {
+        self.left.is_inside(left) && self.right.is_inside(right)
+    }
+
     /// The pair with its sides exchanged.
     pub fn exchanged(self) -> KeyPair
         ensures { λ r. ⌜ r ≡ exchanged self ⌝ }

@@ -1,7 +1,7 @@
 use mathlib.Core.Path.{_≡_}
 use lib.ListN.{drop}
 use Rattle.stats.specs.Every.{every}
-use Rattle.estimators.specs.Answerable.{pair-inside}
+use Rattle.questions.specs.Types.{pair-inside}
 use Rattle.estimators.proofs.answerable.are_pairs_inside.Given as given
 
 abbrev pub Inv-loop-pair : given.InvT-loop-pair
