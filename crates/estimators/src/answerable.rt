@@ -1,6 +1,5 @@
 //! Questions that have a figure at all.
 ghost use mathlib.Core.Path.{_≡_};
-ghost use lib.ListN.{length};
 ghost use Rattle.stats.specs.Every.{every};
 ghost use Rattle.questions.specs.Questions.{asked, input};
 ghost use Rattle.questions.specs.Types.{pair-inside};

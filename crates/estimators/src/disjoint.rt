@@ -2,7 +2,7 @@
 ghost use mathlib.Core.Path.{_≡_};
 ghost use Rattle.questions.specs.Questions.{asked};
 ghost use Rattle.estimators.specs.KeyColumns.{keys-from};
-ghost use Rattle.estimators.specs.Zeros.{zero-of, either-zero, or-else};
+ghost use Rattle.estimators.specs.Zeros.{zero-of, either-zero};
 ghost use Rattle.estimators.specs.Disjoint.{low-past-high, ranges-apart, no-null-match, disjoint-pair, disjoint};
 use crate::pairs::KeyColumns;
 use crate::pairs::key_columns;

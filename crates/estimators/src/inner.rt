@@ -7,7 +7,6 @@ ghost use Rattle.questions.specs.Questions.{asked};
 ghost use Rattle.questions.specs.declared.types.JoinSide.the-variants.{Left};
 ghost use Rattle.estimators.specs.Answerable.{answerable};
 ghost use Rattle.estimators.specs.KeyColumns.{keys-from};
-ghost use Rattle.estimators.specs.Zeros.{either-zero, zero-of};
 ghost use Rattle.estimators.specs.Widest.{max-present, pair-width, widest, matching, inner-rows};
 use crate::disjoint::estimate_disjoint_inputs;
 use crate::disjoint::known_zero;

@@ -1,9 +1,9 @@
 //! The columns that key pairs name.
 ghost use mathlib.Core.Path.{_≡_};
-ghost use lib.ListN.{length, getD};
+ghost use lib.ListN.{getD};
 ghost use Rattle.questions.specs.Questions.{asked};
 ghost use Rattle.stats.specs.Columns.{unknown-column};
-ghost use Rattle.estimators.specs.KeyColumns.{columns-at, columns-from, turned};
+ghost use Rattle.estimators.specs.KeyColumns.{columns-from};
 use keys::Key;
 use questions::JoinQuestion;
 use questions::JoinSide;

@@ -1,7 +1,6 @@
 //! Rows of a join by the product of all its keys' distinct values.
 ghost use mathlib.Core.Path.{_≡_};
 ghost use Prim.Native.Nat.{_≤_, _<_};
-ghost use Rattle.std.specs.Options.{Cases};
 ghost use Rattle.stats.specs.Limits.{max-count};
 ghost use Rattle.questions.specs.Questions.{asked};
 ghost use Rattle.questions.specs.declared.types.JoinSide.the-variants.{Left};

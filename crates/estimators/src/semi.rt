@@ -1,9 +1,8 @@
 //! Rows of a semi join: those of one side that have a match on the other.
 ghost use mathlib.Core.Path.{_≡_};
-ghost use Rattle.stats.specs.Precisions.{known};
-ghost use Rattle.questions.specs.Questions.{asked, this-input, other-input};
+ghost use Rattle.questions.specs.Questions.{asked};
 ghost use Rattle.estimators.specs.KeyColumns.{keys-from};
-ghost use Rattle.estimators.specs.Semi.{has-statistics, null-part, pair-factor, selectivity, rows-kept, times, semi-rows};
+ghost use Rattle.estimators.specs.Semi.{has-statistics, null-part, pair-factor, selectivity, times, semi-rows};
 use crate::disjoint::estimate_disjoint_inputs;
 use crate::pairs::KeyColumns;
 use crate::pairs::key_columns;

@@ -1,6 +1,4 @@
 //! Short lists, as a node keeps them.
-ghost use mathlib.Core.Path.{_≡_};
-ghost use Rattle.sheet.specs.Shorts.{listed};
 
 /// At most sixteen values: the first `len` of the items. Where memory holds a
 /// larger `len`, all items count.

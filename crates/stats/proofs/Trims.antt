@@ -61,3 +61,8 @@ pub trims : {K : Type 0} (relation : K → K → Relation) (rows : Precision ℕ
 trims relation (Exact n) c = trims-to n c relation (Exact n) (under n c) (stays n c)
 trims relation (Inexact n) c = trims-to n c relation (Inexact n) (under n c) (stays n c)
 trims relation Absent c = record { ceiling = tt; stays = λ h. refl; stays-lawful = λ h. h; stays-within = λ h. h }
+
+pub trim-ceiling : {K : Type 0} (rows : Precision ℕ) (c : ColumnStatistics K) → Ceiling rows (trimmed rows c)
+trim-ceiling (Exact n) c = under n c
+trim-ceiling (Inexact n) c = under n c
+trim-ceiling Absent c = tt

@@ -88,6 +88,8 @@ pub record WorkedCases : Type 0 where
   pub trim-needs-rows : trimmed Absent (counts (Exact 12) (Exact 3)) ≡ counts (Exact 12) (Exact 3)
   -- 1 of 3 rows, for 2 rows
   pub scale-rounds-up : scaled (Exact 1) 3 2 ≡ Inexact 1
+  -- a quarter of 1,000 rows is null, and so is a quarter of 500
+  pub scale-of-nulls : scaled (Exact 250) 1000 500 ≡ Inexact 125
   pub scale-of-none : scaled (Exact 5) 0 2 ≡ Inexact 0
   -- a count above the rows; the rows that are not null; the values of a range
   pub distincts-above-rows : max-distinct whole-size (Exact 10) (counts Absent (Exact 90)) ≡ Inexact 10

@@ -11,6 +11,7 @@ computed = record {
   trim-caps-nulls = refl;
   trim-needs-rows = refl;
   scale-rounds-up = refl;
+  scale-of-nulls = refl;
   scale-of-none = refl;
   distincts-above-rows = refl;
   distincts-not-null = refl;
