@@ -1,3 +1,4 @@
 pub mod Blocks
 pub mod Widths
 pub mod Sound
+pub mod LawsHold

@@ -73,16 +73,16 @@ abbrev pub kept-child : JoinSide → ℕ → ℕ → ℕ
 kept-child Left l r = l
 kept-child Right l r = r
 
--- a semi join and an anti join share the rows of the kept child: both hold
--- figures, and their rows add up; or neither does, and both hold all of them
+-- by the figures and rows of a semi and of an anti join, and the kept rows: both
+-- hold figures, and their rows add up; or neither does, and both hold all of them
+abbrev pub ShareBy : Option Figure → Option Figure → Precision ℕ → Precision ℕ → Precision ℕ → Type 0
+ShareBy (Some f) (Some g) semi anti kept = known kept ≡ Some (or-zero semi + or-zero anti)
+ShareBy None None semi anti kept = (semi ≡ inexact kept) × (anti ≡ inexact kept)
+ShareBy (Some f) None semi anti kept = ⊥
+ShareBy None (Some g) semi anti kept = ⊥
+
 abbrev pub Share : Node → Node → Precision ℕ → Type 0
-Share semi anti kept = by (semi .figure) (anti .figure)
-  where
-    by : Option Figure → Option Figure → Type 0
-    by (Some f) (Some g) = known kept ≡ Some (or-zero (semi .rows) + or-zero (anti .rows))
-    by None None = (semi .rows ≡ inexact kept) × (anti .rows ≡ inexact kept)
-    by (Some f) None = ⊥
-    by None (Some g) = ⊥
+Share semi anti kept = ShareBy (semi .figure) (anti .figure) (semi .rows) (anti .rows) kept
 
 -- the columns of a join, seen from its mirror: of types 0 to 3 the first w, those
 -- of the left child, stand after the others
