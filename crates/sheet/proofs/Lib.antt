@@ -1,4 +1,6 @@
-pub mod Blocks
+pub mod BlockLists
 pub mod Widths
 pub mod Sound
 pub mod LawsHold
+pub mod Writes
+pub mod FindUnsound

@@ -46,7 +46,7 @@ use Rattle.sheet.specs.Made.{Made, joined}
 use Rattle.sheet.specs.Causes.{no-node-memory, short-nodes, short-columns, block-inside, stands, in-limits, columns-sound, fit-child, count-fits, keys-inside, width-fits, columns-fit, made, laid-unsound, unless, order-refusal, cut-inside, cut-refusal}
 use Rattle.sheet.specs.Steps.{Step, with-node, cut-to, settled, step}
 use Rattle.sheet.specs.Laws.{Blank, Reached, start, next}
-use Rattle.sheet.proofs.Blocks.{block-stays, block-new, listed-kept, all-made}
+use Rattle.sheet.proofs.BlockLists.{block-stays, block-new, listed-kept, all-made}
 use Rattle.sheet.proofs.Widths.{made-fits}
 
 abbrev pub nth : {K : Type 0} → Sheet K → ℕ → Node

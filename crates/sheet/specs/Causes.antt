@@ -2,7 +2,7 @@
 -- cause holds. Assumes nothing.
 use mathlib.Core.Bool.{Bool, true, false, cond, not, _&&_, _||_}
 use mathlib.Core.List.{List, [], _∷_, map}
-use Prim.Native.Nat.{ℕ, suc, _+_}
+use Prim.Native.Nat.{ℕ, _+_}
 use lib.Dec.{eqb, leb, ltb}
 use lib.ListN.{length}
 use Rattle.std.specs.Options.{mapped}
@@ -134,9 +134,12 @@ made estimate s (union cs) = united (map (table-at s) cs)
 made estimate s (group mode sets extras c keys) = grouped mode sets extras keys (table-at s c)
 
 -- ---- 9: the first laid column over the limits or unlawful
+abbrev pub unsound-from : {K : Type 0} → (K → K → Relation) → ℕ → List (ColumnStatistics K) → Option ℕ
+unsound-from relation i [] = None
+unsound-from relation i (c ∷ cs) = cond (sound relation c) (unsound-from relation (i + 1) cs) (Some i)
+
 abbrev pub first-unsound : {K : Type 0} → (K → K → Relation) → List (ColumnStatistics K) → Option ℕ
-first-unsound relation [] = None
-first-unsound relation (c ∷ cs) = cond (sound relation c) (mapped suc (first-unsound relation cs)) (Some 0)
+first-unsound relation cs = unsound-from relation 0 cs
 
 abbrev pub laid-unsound : {K : Type 0} → (K → K → Relation) → Order K → Option ℕ
 laid-unsound relation (lay rows bytes columns) = first-unsound relation columns

@@ -1,10 +1,17 @@
 //! A sheet of estimates: nodes and their columns, in memory that is handed in.
+ghost use Rattle.sheet.specs.Sheets.{Sheet};
+ghost use Rattle.sheet.specs.Laws.{Reached, Laws};
+
+mod blocks;
+mod checks;
 mod operators;
 mod refusals;
 mod shorts;
 
+use keys::Key;
 pub use operators::AggregateMode;
 pub use operators::Operator;
+use questions::Estimator;
 use questions::Figure;
 pub use refusals::Refusal;
 pub use refusals::RefusalDebug;
@@ -32,3 +39,10 @@ pub struct Node {
     pub figure: Option<Figure>,
     pub operator: Operator,
 }
+
+/// The laws of the sheet, over every run: the contract is the theorem. Whatever
+/// list of calls made a sheet of a blank one, some of them refused, it keeps the
+/// ceiling, the figures, the shares and the mirrors.
+pub fn laws_over_runs<K: Key, E: Estimator<K>>(_estimator: &E)
+    ensures { λ _. ⌜ ((e : E) (s : Sheet K) → Reached (K·Key .relation) (E·Estimator .figure e) s → Laws (E·Estimator .figure e) s) ⌝ }
+{}
