@@ -4,3 +4,4 @@ pub mod Sound
 pub mod LawsHold
 pub mod Writes
 pub mod FindUnsound
+pub mod Refused

@@ -54,6 +54,15 @@ cut-to n s = record {
   columns = s .columns;
 }
 
+-- the estimator that is not asked
+abbrev pub no-figure : {K : Type 0} → Question K → Option Figure
+no-figure q = None
+
+-- a check's answer: nothing, or the refusal
+abbrev pub checked : Option Refusal → Result (Unit {0}) Refusal
+checked None = Ok tt
+checked (Some r) = Err r
+
 -- a refusal leaves the sheet as it was
 abbrev pub settled : {K : Type 0} → Option Refusal → Sheet K → Sheet K → Step K
 settled (Some r) s t = stepped (Err r) s

@@ -3,6 +3,7 @@ ghost use Rattle.sheet.specs.Sheets.{Sheet};
 ghost use Rattle.sheet.specs.Laws.{Reached, Laws};
 
 mod blocks;
+mod calls;
 mod checks;
 mod operators;
 mod refusals;
