@@ -14,7 +14,7 @@ use Rattle.keys.proofs.NoValue.{no-value}
 use Rattle.stats.specs.declared.exactness.Precision.{Precision}
 use Rattle.stats.specs.declared.exactness.Precision.the-variants.{Exact, Inexact, Absent}
 use Rattle.stats.specs.declared.columns.ColumnStatistics.{ColumnStatistics}
-use Rattle.stats.specs.Precisions.{known, inexact, or-zero}
+use Rattle.stats.specs.Precisions.{known, inexact}
 use Rattle.stats.specs.Columns.{unknown-column, column-inexact}
 use Rattle.stats.specs.Trim.{trimmed}
 use Rattle.questions.specs.declared.types.JoinType.{JoinType}
@@ -35,7 +35,7 @@ use Rattle.sheet.specs.declared.Node.{Node}
 use Rattle.sheet.specs.Shorts.{listed}
 use Rattle.sheet.specs.Sheets.{Sheet, Table, Standing, node-at, block, table-at}
 use Rattle.sheet.specs.Made.{Made, unknowns, join-question, combined, key-of, key-columns, part-by, part, marked, joined-by, joined}
-use Rattle.sheet.specs.Laws.{Reached, Joins, AsksEstimator, semi-of, anti-of, kept-child, ShareBy, Share, seen-mirrored, SameTable, Laws, LawsOverRuns}
+use Rattle.sheet.specs.Laws.{Reached, Joins, AsksEstimator, semi-of, anti-of, kept-child, RowsAddUp, ShareBy, Share, seen-mirrored, SameTable, Laws, LawsOverRuns}
 use Rattle.sheet.proofs.Widths.{block-length}
 use Rattle.sheet.proofs.Sound.{nth, end, Holds, JoinHolds, Sound, reached-sound}
 
@@ -61,17 +61,14 @@ asked-figure type.LeftMark a rule pairs f l r = absurd a
 asked-figure type.RightMark a rule pairs f l r = absurd a
 
 -- ---- shares
-rows-amount : (f : Figure) → or-zero (rows-of f) ≡ amount f
+rows-amount : (f : Figure) → known (rows-of f) ≡ Some (amount f)
 rows-amount (figure.Exact n) = refl
 rows-amount (figure.Inexact n) = refl
 
-added : (f g : Figure) (kept : Precision ℕ) → known kept ≡ Some (amount f + amount g) → known kept ≡ Some (or-zero (rows-of f) + or-zero (rows-of g))
-added f g kept h = h ∙ (λ i. Some (sym (rows-amount f) i + sym (rows-amount g) i))
+added : (f g : Figure) (kept : Precision ℕ) → known kept ≡ Some (amount f + amount g) → RowsAddUp (rows-of f) (rows-of g) kept
+added f g kept h = record { semi-count = amount f; anti-count = amount g; semi-is = rows-amount f; anti-is = rows-amount g; kept-is = h }
 
 module _ {K : Type 0} (rule : NullEquality) (keys : List ℕ) (t : Table K) where
-  part-rows : Bool → Option Figure → Option ℕ → Precision ℕ
-  part-rows anti f o = part-by anti rule keys f o t .rows
-
   share-known : (n : ℕ) (f g : Option Figure) → AddUp f g (t .rows) → ShareBy f g (part-by false rule keys f (Some n) t .rows) (part-by true rule keys g (Some n) t .rows) (t .rows)
   share-known n None None h = (refl, refl)
   share-known n None (Some g) h = absurd h
@@ -228,6 +225,7 @@ module _ {K : Type 0} (estimate : Question K → Option Figure) (shares : Shares
 
   laws-hold : Laws estimate s
   laws-hold = record {
+    in-memory = λ n st. record { node = omega (arith, st .to-last, h .counted); used = h .ends (n - 1) (place n st); columns = h .within };
     ceiling = λ n st. h .fits (n - 1) (place n st) .ceiling;
     figures = λ n t rule l r pairs j a. made-at n t rule l r pairs j .figure ∙ asked-figure t a rule pairs _ (table-at s l) (table-at s r);
     shares = λ n m side rule l r pairs i j. share-at side n m rule l r pairs i j;

@@ -1,6 +1,6 @@
 -- The causes of a refusal, each by itself; the answer is the least number whose
 -- cause holds. Assumes nothing.
-use mathlib.Core.Bool.{Bool, true, false, cond, not, _&&_, _||_}
+use mathlib.Core.Bool.{Bool, true, cond, not, _&&_, _||_}
 use mathlib.Core.List.{List, [], _∷_, map}
 use Prim.Native.Nat.{ℕ, _+_}
 use lib.Dec.{eqb, leb, ltb}
@@ -50,7 +50,7 @@ short-columns s = ltb (length (s .columns)) (s .head .used)
 abbrev pub block-inside : {K : Type 0} → Sheet K → Node → Bool
 block-inside s node = leb (node .place + node .width) (s .head .used)
 
--- ---- 2: a child that does not stand, or is not as a call would have made it
+-- ---- 2: a child that does not stand, is beyond the limits or has an unlawful column
 abbrev pub stands : {K : Type 0} → Sheet K → ℕ → Bool
 stands s n = leb 1 n && leb n (s .head .count)
 

@@ -1,15 +1,15 @@
 -- The laws of a sheet, over every run of calls. Assumes nothing.
 use mathlib.Core.Path.{_≡_}
 use mathlib.Core.List.{List, map, _++_}
-use Prim.Native.Nat.{ℕ, _+_}
-use lib.ListN.{take, drop}
+use Prim.Native.Nat.{ℕ, _+_, _≤_}
+use lib.ListN.{length, take, drop}
 use Rattle.std.specs.shelf.Lists.{All}
 use Rattle.std.specs.declared.option.Option.{Option}
 use Rattle.std.specs.declared.option.Option.the-variants.{Some, None}
 use Rattle.keys.specs.declared.Relation.{Relation}
 use Rattle.stats.specs.declared.exactness.Precision.{Precision}
 use Rattle.stats.specs.declared.columns.ColumnStatistics.{ColumnStatistics}
-use Rattle.stats.specs.Precisions.{inexact, known, or-zero}
+use Rattle.stats.specs.Precisions.{inexact, known}
 use Rattle.stats.specs.Trim.{Ceiling}
 use Rattle.questions.specs.declared.types.JoinType.{JoinType}
 use Rattle.questions.specs.declared.types.JoinType.the-variants as type
@@ -19,7 +19,6 @@ use Rattle.questions.specs.declared.types.NullEquality.{NullEquality}
 use Rattle.questions.specs.declared.types.KeyPair.{KeyPair}
 use Rattle.questions.specs.declared.figures.Figure.{Figure}
 use Rattle.questions.specs.Types.{mirror, exchanged}
-use Rattle.questions.specs.Figures.{amount}
 use Rattle.questions.specs.Questions.{Question}
 use Rattle.questions.specs.Laws.{Shares, Mirrors}
 use Rattle.sheet.specs.declared.Node.{Node}
@@ -73,10 +72,18 @@ abbrev pub kept-child : JoinSide → ℕ → ℕ → ℕ
 kept-child Left l r = l
 kept-child Right l r = r
 
+-- rows, exactness aside, that add up to others
+pub record RowsAddUp (semi anti kept : Precision ℕ) : Type 0 where
+  pub semi-count : ℕ
+  pub anti-count : ℕ
+  pub semi-is : known semi ≡ Some semi-count
+  pub anti-is : known anti ≡ Some anti-count
+  pub kept-is : known kept ≡ Some (semi-count + anti-count)
+
 -- by the figures and rows of a semi and of an anti join, and the kept rows: both
 -- hold figures, and their rows add up; or neither does, and both hold all of them
 abbrev pub ShareBy : Option Figure → Option Figure → Precision ℕ → Precision ℕ → Precision ℕ → Type 0
-ShareBy (Some f) (Some g) semi anti kept = known kept ≡ Some (or-zero semi + or-zero anti)
+ShareBy (Some f) (Some g) semi anti kept = RowsAddUp semi anti kept
 ShareBy None None semi anti kept = (semi ≡ inexact kept) × (anti ≡ inexact kept)
 ShareBy (Some f) None semi anti kept = ⊥
 ShareBy None (Some g) semi anti kept = ⊥
@@ -105,7 +112,15 @@ pub record SameTable {K : Type 0} (columns : List (ColumnStatistics K)) (f : Lis
   pub figure : b .figure ≡ a .figure
   pub same-columns : block columns b ≡ f (block columns a)
 
+-- a node is in node memory, and its block in the used part of column memory
+pub record InMemory {K : Type 0} (s : Sheet K) (n : ℕ) : Type 0 where
+  pub node : n ≤ length (s .nodes)
+  pub used : node-at s n .place + node-at s n .width ≤ s .head .used
+  pub columns : s .head .used ≤ length (s .columns)
+
 pub record Laws {K : Type 0} (estimate : Question K → Option Figure) (s : Sheet K) : Type 0 where
+  -- a standing node is there to be read
+  pub in-memory : (n : ℕ) → Standing s n → InMemory s n
   -- in every column of a standing node with known rows, nulls and distincts
   -- together are at most those rows
   pub ceiling : (n : ℕ) → Standing s n → All (Ceiling (node-at s n .rows)) (block (s .columns) (node-at s n))

@@ -3,14 +3,16 @@ ghost use mathlib.Core.Path.{_≡_};
 ghost use Prim.Native.Nat.{_+_, _^_, _<_};
 ghost use lib.ListN.{length, set};
 ghost use Rattle.sheet.specs.Sheets.{sheet-of};
-ghost use Rattle.sheet.specs.Calls.{order, lay};
+ghost use Rattle.sheet.specs.Calls.{order, lay, cut};
 ghost use Rattle.sheet.specs.Steps.{stepped, step, no-figure};
 use crate::Head;
 use crate::Node;
 use crate::Operator;
 use crate::Refusal;
 use crate::blocks::put_block;
+use crate::checks::check_cut;
 use crate::checks::check_lay;
+use crate::checks::node_of;
 use keys::Key;
 use stats::ColumnStatistics;
 use stats::Precision;
@@ -52,4 +54,25 @@ fn laid_on<K: Key>(
         operator: Operator::Lay,
     };
     Ok(add_node(head, nodes, node))
+}
+
+/// Keeps nodes 1 to `n`; the memory after them is used again.
+fn cut_on<K: Key>(
+    head: &mut Head,
+    nodes: &[Node],
+    columns: &[ColumnStatistics<K>],
+    n: usize,
+) -> Result<usize, Refusal>
+    ensures { λ r. ⌜ stepped r (sheet-of (now (head .exit)) (now (nodes .entry)) (now (columns .entry))) ≡ step relation no-figure (cut n) (sheet-of (now (head .entry)) (now (nodes .entry)) (now (columns .entry))) ⌝ }
+{
+    check_cut(head, nodes, columns, n)?;
+    let used = if n == 0 {
+        0
+    } else {
+        let last = node_of(nodes, n);
+        last.place + last.width
+    };
+    head.count = n;
+    head.used = used;
+    Ok(n)
 }

@@ -1,22 +1,27 @@
 //! Whether a call can be carried out.
 ghost use mathlib.Core.Path.{_≡_};
-ghost use mathlib.Core.Bool.{cond, not, _||_};
-ghost use Prim.Native.Nat.{_+_};
-ghost use lib.Dec.{leb};
-ghost use lib.ListN.{length};
+ghost use mathlib.Core.Bool.{cond, not, _&&_, _||_};
+ghost use Prim.Native.Nat.{_+_, _-_};
+ghost use mathlib.Core.List.{List};
+ghost use lib.Dec.{eqb, leb};
+ghost use Rattle.sheet.specs.declared.Node.{Node};
+ghost use lib.ListN.{length, getD};
 ghost use Rattle.std.specs.declared.result.Result.the-variants.{Ok, Err};
-ghost use Rattle.sheet.specs.Sheets.{sheet-of};
+ghost use Rattle.stats.specs.Every.{every};
+ghost use Rattle.sheet.specs.Sheets.{sheet-of, no-node, node-at};
 ghost use Rattle.sheet.specs.Calls.{lay};
-ghost use Rattle.sheet.specs.Causes.{in-limits, first-unsound, order-refusal, max-nodes};
+ghost use Rattle.sheet.specs.Causes.{in-limits, columns-sound, fit-child, block-inside, first-unsound, order-refusal, cut-inside, cut-refusal, max-nodes};
 ghost use Rattle.sheet.specs.Steps.{no-figure, checked};
 use crate::Head;
 use crate::Node;
+use crate::Operator;
 use crate::Refusal;
 use keys::Key;
 use stats::ColumnStatistics;
 use stats::MAX_COUNT;
 use stats::MAX_NODE_BYTES;
 use stats::Precision;
+use stats::all_sound;
 
 /// The most nodes of a sheet.
 pub const MAX_NODES: usize = 256;
@@ -96,4 +101,79 @@ pub(crate) fn check_lay<K: Key>(
         Some(index) => Err(Refusal::Column(index)),
         None => Ok(()),
     }
+}
+
+/// The node of a number; one without rows and columns where memory has none.
+pub(crate) fn node_of(nodes: &[Node], n: usize) -> Node
+    ensures { λ r. ⌜ r ≡ getD (now (nodes .entry)) (n - 1) no-node ⌝ }
+{
+    match nodes.get(n.saturating_sub(1)) {
+        Some(node) => *node,
+        None => Node {
+            rows: Precision::Exact(0),
+            bytes: Precision::Exact(0),
+            place: 0,
+            width: 0,
+            figure: None,
+            operator: Operator::Lay,
+        },
+    }
+}
+
+/// Whether a node's columns are sound, as far as they can be read.
+fn are_columns_sound<K: Key>(head: &Head, columns: &[ColumnStatistics<K>], node: &Node) -> bool
+    ensures { λ r. ⌜ ((nodes : List Node) → r ≡ columns-sound relation (sheet-of (now (head .entry)) nodes (now (columns .entry))) (now (node .entry))) ⌝ }
+{
+    if columns.len() < head.used || !is_block_inside(head.used, node) {
+        return true;
+    }
+    let from = node.place;
+    let to = node.place + node.width;
+    all_sound(&columns[from..to])
+}
+
+/// Whether a node is inside the limits, and its columns are lawful.
+fn is_fit_node<K: Key>(head: &Head, columns: &[ColumnStatistics<K>], node: &Node) -> bool
+    ensures { λ r. ⌜ ((nodes : List Node) → r ≡ (in-limits (now (node .entry)) && columns-sound relation (sheet-of (now (head .entry)) nodes (now (columns .entry))) (now (node .entry)))) ⌝ }
+{
+    is_in_limits(node) && are_columns_sound(head, columns, node)
+}
+
+/// Whether a child stands, is inside the limits and has lawful columns.
+fn is_fit_child<K: Key>(
+    head: &Head,
+    nodes: &[Node],
+    columns: &[ColumnStatistics<K>],
+    n: usize,
+) -> bool
+    ensures { λ r. ⌜ r ≡ fit-child relation (sheet-of (now (head .entry)) (now (nodes .entry)) (now (columns .entry))) n ⌝ }
+{
+    if n == 0 || head.count < n {
+        return false;
+    }
+    let node = node_of(nodes, n);
+    is_fit_node(head, columns, &node)
+}
+
+/// Whether a cut to a node leaves column memory in order; a cut to 0 has no
+/// block.
+fn is_cut_inside(head: &Head, nodes: &[Node], n: usize) -> bool
+    ensures { λ r. ⌜ r ≡ (eqb n 0 || leb (getD (now (nodes .entry)) (n - 1) no-node .place + getD (now (nodes .entry)) (n - 1) no-node .width) (now (head .entry) .used)) ⌝ }
+{
+    n == 0 || is_block_inside(head.used, &node_of(nodes, n))
+}
+
+/// Whether the sheet can be cut to a node.
+pub(crate) fn check_cut<K: Key>(
+    head: &Head,
+    nodes: &[Node],
+    columns: &[ColumnStatistics<K>],
+    n: usize,
+) -> Result<(), Refusal>
+    ensures { λ r. ⌜ r ≡ checked (cut-refusal (sheet-of (now (head .entry)) (now (nodes .entry)) (now (columns .entry))) n) ⌝ }
+{
+    refuse_unless(head.count <= nodes.len(), Refusal::NodeMemory)?;
+    refuse_unless(n <= head.count, Refusal::Child)?;
+    let inside = head.used <= columns.len() && is_cut_inside(head, nodes, n);
+    refuse_unless(inside, Refusal::ColumnMemory)
 }

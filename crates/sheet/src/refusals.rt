@@ -17,8 +17,8 @@ pub enum Refusal {
     KeyIndex,
     /// Over 64 columns; or the children of a union differ in width.
     Width,
-    /// Column memory is full, or shorter than the head says; or a child's block
-    /// lies outside the used part.
+    /// Column memory is full, or shorter than the head says; or the block of a
+    /// child, or of the last node that a cut keeps, lies outside the used part.
     ColumnMemory,
     /// The node would have more than 2^26 rows.
     Rows,
