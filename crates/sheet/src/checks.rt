@@ -1,6 +1,6 @@
 //! Whether a call can be carried out.
 ghost use mathlib.Core.Path.{_≡_};
-ghost use mathlib.Core.Bool.{cond, not, _&&_, _||_};
+ghost use mathlib.Core.Bool.{true, cond, not, _&&_, _||_};
 ghost use Prim.Native.Nat.{_+_, _-_};
 ghost use mathlib.Core.List.{List};
 ghost use lib.Dec.{eqb, leb};
@@ -9,19 +9,21 @@ ghost use lib.ListN.{length, getD};
 ghost use Rattle.std.specs.declared.result.Result.the-variants.{Ok, Err};
 ghost use Rattle.stats.specs.Every.{every};
 ghost use Rattle.sheet.specs.Sheets.{sheet-of, no-node, node-at};
-ghost use Rattle.sheet.specs.Calls.{lay};
+ghost use Rattle.sheet.specs.Calls.{lay, limit};
 ghost use Rattle.sheet.specs.Causes.{in-limits, columns-sound, fit-child, block-inside, first-unsound, order-refusal, cut-inside, cut-refusal, max-nodes};
-ghost use Rattle.sheet.specs.Steps.{no-figure, checked};
+ghost use Rattle.sheet.specs.Steps.{no-figure, checked, checked-with};
 use crate::Head;
 use crate::Node;
 use crate::Operator;
 use crate::Refusal;
+use crate::limits::limited_rows;
 use keys::Key;
 use stats::ColumnStatistics;
 use stats::MAX_COUNT;
 use stats::MAX_NODE_BYTES;
 use stats::Precision;
 use stats::all_sound;
+use stats::rescale_byte_size;
 
 /// The most nodes of a sheet.
 pub const MAX_NODES: usize = 256;
@@ -176,4 +178,43 @@ pub(crate) fn check_cut<K: Key>(
     refuse_unless(n <= head.count, Refusal::Child)?;
     let inside = head.used <= columns.len() && is_cut_inside(head, nodes, n);
     refuse_unless(inside, Refusal::ColumnMemory)
+}
+
+/// Whether one child's block, and a block of so many columns more, fit column
+/// memory.
+fn fits_columns<K: Key>(
+    head: &Head,
+    columns: &[ColumnStatistics<K>],
+    child: &Node,
+    width: usize,
+) -> bool
+    ensures { λ r. ⌜ r ≡ (leb (now (head .entry) .used + width) (length (now (columns .entry))) && (leb (now (child .entry) .place + now (child .entry) .width) (now (head .entry) .used) && true)) ⌝ }
+{
+    has_column_room(head, columns, width) && is_block_inside(head.used, child)
+}
+
+/// Whether the rows of a node can be limited.
+pub(crate) fn check_limit<K: Key>(
+    head: &Head,
+    nodes: &[Node],
+    columns: &[ColumnStatistics<K>],
+    child: usize,
+    skip: u64,
+    fetch: Option<u64>,
+) -> Result<Node, Refusal>
+    ensures { λ r. ⌜ r ≡ checked-with (order-refusal relation no-figure (sheet-of (now (head .entry)) (now (nodes .entry)) (now (columns .entry))) (limit child skip fetch)) (getD (now (nodes .entry)) (child - 1) no-node) ⌝ }
+{
+    refuse_unless(has_node_room(head, nodes), Refusal::NodeMemory)?;
+    refuse_unless(is_fit_child(head, nodes, columns, child), Refusal::Child)?;
+    let node = node_of(nodes, child);
+    refuse_unless(node.width <= MAX_WIDTH, Refusal::Width)?;
+    refuse_unless(
+        fits_columns(head, columns, &node, node.width),
+        Refusal::ColumnMemory,
+    )?;
+    let rows = limited_rows(skip, fetch, node.rows);
+    refuse_unless(rows.is_at_most(MAX_COUNT), Refusal::Rows)?;
+    let bytes = rescale_byte_size(node.bytes, node.rows, rows);
+    refuse_unless(bytes.is_at_most(MAX_NODE_BYTES), Refusal::Bytes)?;
+    Ok(node)
 }
