@@ -110,7 +110,7 @@ exchange f xs ys w e =
     let l = length-map xs f ∙ e in
     map-append f ys xs ∙ sym ((λ i. drop w (map-append f xs ys i) ++ take w (map-append f xs ys i)) ∙ (λ i. drop-at (map f xs) (map f ys) w l i ++ take-at (map f xs) (map f ys) w l i))
 
-map-map : {A B C : Type 0} (g : B → C) (f : A → B) (xs : List A) → map g (map f xs) ≡ map (λ x. g (f x)) xs
+pub map-map : {A B C : Type 0} (g : B → C) (f : A → B) (xs : List A) → map g (map f xs) ≡ map (λ x. g (f x)) xs
 map-map g f [] = refl
 map-map g f (x ∷ xs) = ap (λ zs. g (f x) ∷ zs) (map-map g f xs)
 

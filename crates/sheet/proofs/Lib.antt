@@ -5,3 +5,4 @@ pub mod LawsHold
 pub mod Writes
 pub mod FindUnsound
 pub mod Refused
+pub mod Added

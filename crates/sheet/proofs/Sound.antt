@@ -43,11 +43,11 @@ use Rattle.sheet.specs.Shorts.{listed, kept-as, no-key, no-pair}
 use Rattle.sheet.specs.Sheets.{Sheet, no-node, node-at, block, Table, table-of, table-at}
 use Rattle.sheet.specs.Calls.{Order, lay, join, cross, limit, union, group, Call, order, cut, children, operator-of}
 use Rattle.sheet.specs.Made.{Made, joined}
-use Rattle.sheet.specs.Causes.{no-node-memory, short-nodes, short-columns, block-inside, stands, in-limits, columns-sound, fit-child, count-fits, keys-inside, width-fits, columns-fit, made, laid-unsound, unless, order-refusal, cut-inside, cut-refusal}
+use Rattle.sheet.specs.Causes.{no-node-memory, short-nodes, short-columns, block-inside, stands, in-limits, columns-sound, fit-child, count-fits, keys-inside, width-of, width-fits, columns-fit, made, laid-unsound, unless, order-refusal, cut-inside, cut-refusal}
 use Rattle.sheet.specs.Steps.{Step, with-node, cut-to, settled, step}
 use Rattle.sheet.specs.Laws.{Blank, Reached, start, next}
 use Rattle.sheet.proofs.BlockLists.{block-stays, block-new, listed-kept, all-made}
-use Rattle.sheet.proofs.Widths.{made-fits}
+use Rattle.sheet.proofs.Widths.{made-fits, made-wide}
 
 abbrev pub nth : {K : Type 0} → Sheet K → ℕ → Node
 nth s i = getD (s .nodes) i no-node
@@ -206,6 +206,7 @@ module _ {K : Type 0} (estimate : Question K → Option Figure) where
     pub fit : every (fit-child relation s) (children o) ≡ true
     pub counts : count-fits o ≡ true
     pub space : s .head .used + length (made estimate s o .columns) ≤ length (s .columns)
+    pub wide : length (made estimate s o .columns) ≡ width-of s o
 
   unless-none : (b : Bool) (r : Refusal) (n : Option Refusal) → unless b r n ≡ None → (b ≡ true) × (n ≡ None)
   unless-none true r n e = (refl, e)
@@ -224,6 +225,7 @@ module _ {K : Type 0} (estimate : Question K → Option Figure) where
         fit = b .0;
         counts = c .0;
         space = made-fits estimate s o (f .0);
+        wide = made-wide estimate s o (f .0);
       }
 
   child-stands : (relation : K → K → Relation) (s : Sheet K) (n : ℕ) → fit-child relation s n ≡ true → (1 ≤ n) × (n ≤ s .head .count)

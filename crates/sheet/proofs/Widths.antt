@@ -96,10 +96,16 @@ module _ {K : Type 0} (s : Sheet K) (l : s .head .used ≤ length (s .columns)) 
   made-width estimate (union (c ∷ cs)) h = unknowns-length K (length (table-at s c .columns)) ∙ first-inside c cs h
   made-width estimate (group mode sets extras c keys) h = grouped-length (group-count mode sets keys (table-at s c .columns)) extras keys (table-at s c)
 
--- the new block fits the column memory
-pub made-fits : {K : Type 0} (estimate : Question K → Option Figure) (s : Sheet K) (o : Order K) → columns-fit s o ≡ true → s .head .used + length (made estimate s o .columns) ≤ length (s .columns)
-made-fits estimate s o h =
-    let p = and-parts (leb (s .head .used + width-of s o) (length (s .columns))) (every (λ n. block-inside s (node-at s n)) (children o)) h in
-    let f = leb-true (s .head .used + width-of s o) (length (s .columns)) (p .0) in
-    let w = made-width s (omega arith) estimate o (p .1) in
-    omega arith
+-- the new block is as wide as asked for, and fits the column memory
+module _ {K : Type 0} (estimate : Question K → Option Figure) (s : Sheet K) (o : Order K) (h : columns-fit s o ≡ true) where
+  parts : (leb (s .head .used + width-of s o) (length (s .columns)) ≡ true) × (every (λ n. block-inside s (node-at s n)) (children o) ≡ true)
+  parts = and-parts (leb (s .head .used + width-of s o) (length (s .columns))) (every (λ n. block-inside s (node-at s n)) (children o)) h
+
+  room : s .head .used + width-of s o ≤ length (s .columns)
+  room = leb-true (s .head .used + width-of s o) (length (s .columns)) (parts .0)
+
+  pub made-wide : length (made estimate s o .columns) ≡ width-of s o
+  made-wide = let r = room in made-width s (omega arith) estimate o (parts .1)
+
+  pub made-fits : s .head .used + length (made estimate s o .columns) ≤ length (s .columns)
+  made-fits = let r = room in let w = made-wide in omega arith

@@ -4,6 +4,7 @@ ghost use mathlib.Core.List.{map};
 ghost use Prim.Native.Nat.{_+_, _≤_};
 ghost use lib.ListN.{length, take, drop};
 ghost use Rattle.std.specs.shelf.Lists.{paste};
+ghost use Rattle.stats.specs.Columns.{column-inexact};
 ghost use Rattle.stats.specs.Trim.{trimmed};
 ghost use Rattle.stats.specs.declared.columns.ColumnStatistics.{ColumnStatistics};
 use keys::Key;
@@ -48,5 +49,37 @@ pub(crate) fn copy_block<K: Key, C: Change<K>>(
     for i in 0..width {
         let column = columns[from + i];
         columns[at + i] = change.apply(column);
+    }
+}
+
+/// Trimmed to a node's rows.
+#[derive(Clone, Copy)]
+pub(crate) struct Trimmed {
+    pub rows: Precision<u64>,
+}
+
+pub(crate) impl<K: Key> Change<K> for Trimmed as TrimmedChange {
+    ghost changed = { λ t c. trimmed (t .rows) c };
+
+    fn apply(&self, column: ColumnStatistics<K>) -> ColumnStatistics<K>
+        ensures { λ r. ⌜ r ≡ trimmed (now (self .entry) .rows) column ⌝ }
+    {
+        column.trim(self.rows)
+    }
+}
+
+/// Made Inexact, and trimmed to a node's rows.
+#[derive(Clone, Copy)]
+pub(crate) struct Loosened {
+    pub rows: Precision<u64>,
+}
+
+pub(crate) impl<K: Key> Change<K> for Loosened as LoosenedChange {
+    ghost changed = { λ t c. trimmed (t .rows) (column-inexact c) };
+
+    fn apply(&self, column: ColumnStatistics<K>) -> ColumnStatistics<K>
+        ensures { λ r. ⌜ r ≡ trimmed (now (self .entry) .rows) (column-inexact column) ⌝ }
+    {
+        column.to_inexact().trim(self.rows)
     }
 }
