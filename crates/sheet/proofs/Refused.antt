@@ -26,3 +26,8 @@ found-with None y x d = (refl, cc)
 
 pub accepted-step : {K : Type 0} (o : Option Refusal) (s t u : Sheet K) (n : ℕ) → o ≡ None → n ≡ u .head .count → u ≡ t → stepped (Ok n) u ≡ settled o s t
 accepted-step o s t u n e d i = (λ j. stepped (Ok (d j)) u) ∙ ap (λ v. stepped (Ok (v .head .count)) v) i ∙ sym (ap (λ q. settled q s t) e)
+
+-- a check that is passed refuses nothing
+pub passed : (o : Option Refusal) → Ok tt ≡ checked o → o ≡ None
+passed (Some z) d = let z : _≡_ {A = ℕ} 0 1 = cc in let f : ⊥ = omega arith in absurd f
+passed None d = refl

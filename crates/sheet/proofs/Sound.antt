@@ -11,7 +11,7 @@ use borrow.Author.Count.{below-more}
 use lib.Dec.{eqb, leb, ltb}
 use lib.ListN.{length, getD, set, take, drop, length-map}
 use Rattle.std.specs.shelf.Lists.{All, paste}
-use Rattle.std.specs.Options.{mapped}
+use Rattle.std.specs.Options.{orOther}
 use Rattle.std.specs.declared.option.Option.{Option}
 use Rattle.std.specs.declared.option.Option.the-variants.{Some, None}
 use Rattle.std.proofs.shelf.Lists.{length-set, getD-set-same, getD-set-other}
@@ -43,7 +43,7 @@ use Rattle.sheet.specs.Shorts.{listed, kept-as, no-key, no-pair}
 use Rattle.sheet.specs.Sheets.{Sheet, no-node, node-at, block, Table, table-of, table-at}
 use Rattle.sheet.specs.Calls.{Order, lay, join, cross, limit, union, group, Call, order, cut, children, operator-of}
 use Rattle.sheet.specs.Made.{Made, joined}
-use Rattle.sheet.specs.Causes.{no-node-memory, short-nodes, short-columns, block-inside, stands, in-limits, columns-sound, fit-child, count-fits, keys-inside, width-of, width-fits, columns-fit, made, laid-unsound, unless, order-refusal, cut-inside, cut-refusal}
+use Rattle.sheet.specs.Causes.{no-node-memory, short-nodes, short-columns, block-inside, stands, in-limits, columns-sound, fit-child, count-fits, keys-inside, width-of, width-fits, columns-fit, made, laid-unsound, unless, early-refusal, order-refusal, cut-inside, cut-refusal}
 use Rattle.sheet.specs.Steps.{Step, with-node, cut-to, settled, step}
 use Rattle.sheet.specs.Laws.{Blank, Reached, start, next}
 use Rattle.sheet.proofs.BlockLists.{block-stays, block-new, listed-kept, all-made}
@@ -212,9 +212,13 @@ module _ {K : Type 0} (estimate : Question K → Option Figure) where
   unless-none true r n e = (refl, e)
   unless-none false r n e = no-value (sym e)
 
+  first-none : (a b : Option Refusal) → orOther a b ≡ None → a ≡ None
+  first-none None b e = refl
+  first-none (Some r) b e = no-value (sym e)
+
   pub accepted : (relation : K → K → Relation) (s : Sheet K) (o : Order K) → order-refusal relation estimate s o ≡ None → Accepted relation s o
   accepted relation s o e =
-      let a = unless-none (not (no-node-memory s)) refusal.NodeMemory _ e in
+      let a = unless-none (not (no-node-memory s)) refusal.NodeMemory _ (first-none (early-refusal relation s o) _ e) in
       let b = unless-none (every (fit-child relation s) (children o)) refusal.Child _ (a .1) in
       let c = unless-none (count-fits o) refusal.Count _ (b .1) in
       let d = unless-none (keys-inside s o) refusal.KeyIndex _ (c .1) in

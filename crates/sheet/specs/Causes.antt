@@ -5,7 +5,7 @@ use mathlib.Core.List.{List, [], _∷_, map}
 use Prim.Native.Nat.{ℕ, _+_}
 use lib.Dec.{eqb, leb, ltb}
 use lib.ListN.{length}
-use Rattle.std.specs.Options.{mapped}
+use Rattle.std.specs.Options.{mapped, orOther}
 use Rattle.std.specs.declared.option.Option.{Option}
 use Rattle.std.specs.declared.option.Option.the-variants.{Some, None}
 use Rattle.keys.specs.declared.Relation.{Relation}
@@ -118,7 +118,7 @@ same-widths s (union cs) = every (λ c. eqb (node-at s c .width) (union-width s 
 same-widths s (group mode sets extras c keys) = true
 
 abbrev pub width-fits : {K : Type 0} → Sheet K → Order K → Bool
-width-fits s o = leb (width-of s o) max-width && same-widths s o
+width-fits s o = same-widths s o && leb (width-of s o) max-width
 
 -- ---- 6: room for the new block, and every child's block inside the used part
 abbrev pub columns-fit : {K : Type 0} → Sheet K → Order K → Bool
@@ -153,18 +153,46 @@ laid-unsound relation (group mode sets extras c keys) = None
 abbrev pub unless : Bool → Refusal → Option Refusal → Option Refusal
 unless fine r next = cond fine next (Some r)
 
-module _ {K : Type 0} (relation : K → K → Relation) (estimate : Question K → Option Figure) where
-  abbrev pub order-refusal : Sheet K → Order K → Option Refusal
-  order-refusal s o =
-      unless (not (no-node-memory s)) refusal.NodeMemory
-      (unless (every (fit-child relation s) (children o)) refusal.Child
-      (unless (count-fits o) refusal.Count
-      (unless (keys-inside s o) refusal.KeyIndex
-      (unless (width-fits s o) refusal.Width
-      (unless (columns-fit s o) refusal.ColumnMemory
-      (unless (at-most max-count (made estimate s o .rows)) refusal.Rows
-      (unless (at-most max-node-bytes (made estimate s o .bytes)) refusal.Bytes
-      (mapped refusal.Column (laid-unsound relation o)))))))))
+-- 1 to 6, from the sheet and the order
+abbrev pub early-refusal : {K : Type 0} → (K → K → Relation) → Sheet K → Order K → Option Refusal
+early-refusal relation s o =
+    unless (not (no-node-memory s)) refusal.NodeMemory
+    (unless (every (fit-child relation s) (children o)) refusal.Child
+    (unless (count-fits o) refusal.Count
+    (unless (keys-inside s o) refusal.KeyIndex
+    (unless (width-fits s o) refusal.Width
+    (unless (columns-fit s o) refusal.ColumnMemory None)))))
+
+-- the same of an order on one child, or on two, whose counts and keys are as told
+-- and which makes so many columns
+abbrev pub one-child : {K : Type 0} → (K → K → Relation) → Sheet K → ℕ → Bool → Bool → ℕ → Option Refusal
+one-child relation s c counts inside width =
+    unless (not (no-node-memory s)) refusal.NodeMemory
+    (unless (every (fit-child relation s) (c ∷ [])) refusal.Child
+    (unless counts refusal.Count
+    (unless inside refusal.KeyIndex
+    (unless (leb width max-width) refusal.Width
+    (unless (leb (s .head .used + width) (length (s .columns)) && every (λ n. block-inside s (node-at s n)) (c ∷ [])) refusal.ColumnMemory None)))))
+
+abbrev pub two-children : {K : Type 0} → (K → K → Relation) → Sheet K → ℕ → ℕ → Bool → Bool → ℕ → Option Refusal
+two-children relation s l r counts inside width =
+    unless (not (no-node-memory s)) refusal.NodeMemory
+    (unless (every (fit-child relation s) (l ∷ r ∷ [])) refusal.Child
+    (unless counts refusal.Count
+    (unless inside refusal.KeyIndex
+    (unless (leb width max-width) refusal.Width
+    (unless (leb (s .head .used + width) (length (s .columns)) && every (λ n. block-inside s (node-at s n)) (l ∷ r ∷ [])) refusal.ColumnMemory None)))))
+
+-- 7 and 8, from what the order makes
+abbrev pub size-refusal : {K : Type 0} → Made K → Option Refusal
+size-refusal m =
+    unless (at-most max-count (m .rows)) refusal.Rows
+    (unless (at-most max-node-bytes (m .bytes)) refusal.Bytes None)
+
+abbrev pub order-refusal : {K : Type 0} → (K → K → Relation) → (Question K → Option Figure) → Sheet K → Order K → Option Refusal
+order-refusal relation estimate s o =
+    orOther (early-refusal relation s o)
+    (orOther (size-refusal (made estimate s o)) (mapped refusal.Column (laid-unsound relation o)))
 
 -- a cut to 0 has no block
 abbrev pub cut-inside : {K : Type 0} → Sheet K → ℕ → Bool

@@ -2,28 +2,30 @@
 ghost use mathlib.Core.Path.{_≡_};
 ghost use mathlib.Core.Bool.{true, cond, not, _&&_, _||_};
 ghost use Prim.Native.Nat.{_+_, _-_};
-ghost use mathlib.Core.List.{List};
+ghost use mathlib.Core.List.{List, [], _∷_};
 ghost use lib.Dec.{eqb, leb};
 ghost use Rattle.sheet.specs.declared.Node.{Node};
+ghost use Rattle.sheet.specs.declared.refusals.Refusal.the-variants as refusal;
+ghost use Rattle.std.specs.declared.option.Option.the-variants.{None};
+ghost use Rattle.stats.specs.Precisions.{at-most};
+ghost use Rattle.stats.specs.Limits.{max-count, max-node-bytes};
 ghost use lib.ListN.{length, getD};
 ghost use Rattle.std.specs.declared.result.Result.the-variants.{Ok, Err};
 ghost use Rattle.stats.specs.Every.{every};
 ghost use Rattle.sheet.specs.Sheets.{sheet-of, no-node, node-at};
-ghost use Rattle.sheet.specs.Calls.{lay, limit};
-ghost use Rattle.sheet.specs.Causes.{in-limits, columns-sound, fit-child, block-inside, first-unsound, order-refusal, cut-inside, cut-refusal, max-nodes};
-ghost use Rattle.sheet.specs.Steps.{no-figure, checked, checked-with};
+ghost use Rattle.sheet.specs.Calls.{lay};
+ghost use Rattle.sheet.specs.Causes.{unless, one-child, two-children, in-limits, columns-sound, fit-child, block-inside, first-unsound, order-refusal, cut-inside, cut-refusal, max-nodes};
+ghost use Rattle.sheet.specs.Steps.{no-figure, checked};
 use crate::Head;
 use crate::Node;
 use crate::Operator;
 use crate::Refusal;
-use crate::limits::limited_rows;
 use keys::Key;
 use stats::ColumnStatistics;
 use stats::MAX_COUNT;
 use stats::MAX_NODE_BYTES;
 use stats::Precision;
 use stats::all_sound;
-use stats::rescale_byte_size;
 
 /// The most nodes of a sheet.
 pub const MAX_NODES: usize = 256;
@@ -180,9 +182,61 @@ pub(crate) fn check_cut<K: Key>(
     refuse_unless(inside, Refusal::ColumnMemory)
 }
 
+/// The least cause of 1 to 6.
+fn first_cause(
+    room: bool,
+    fit: bool,
+    counts: bool,
+    inside: bool,
+    narrow: bool,
+    memory: bool,
+) -> Result<(), Refusal>
+    ensures { λ r. ⌜ r ≡ checked (unless room refusal.NodeMemory (unless fit refusal.Child (unless counts refusal.Count (unless inside refusal.KeyIndex (unless narrow refusal.Width (unless memory refusal.ColumnMemory None)))))) ⌝ }
+{
+    refuse_unless(room, Refusal::NodeMemory)?;
+    refuse_unless(fit, Refusal::Child)?;
+    refuse_unless(counts, Refusal::Count)?;
+    refuse_unless(inside, Refusal::KeyIndex)?;
+    refuse_unless(narrow, Refusal::Width)?;
+    refuse_unless(memory, Refusal::ColumnMemory)
+}
+
+/// The least cause of 7 and 8.
+pub(crate) fn check_size(rows: Precision<u64>, bytes: Precision<u64>) -> Result<(), Refusal>
+    ensures { λ r. ⌜ r ≡ checked (unless (at-most max-count rows) refusal.Rows (unless (at-most max-node-bytes bytes) refusal.Bytes None)) ⌝ }
+{
+    refuse_unless(rows.is_at_most(MAX_COUNT), Refusal::Rows)?;
+    refuse_unless(bytes.is_at_most(MAX_NODE_BYTES), Refusal::Bytes)
+}
+
+/// Whether one child is fit.
+fn is_one_fit<K: Key>(
+    head: &Head,
+    nodes: &[Node],
+    columns: &[ColumnStatistics<K>],
+    child: usize,
+) -> bool
+    ensures { λ r. ⌜ r ≡ every (fit-child relation (sheet-of (now (head .entry)) (now (nodes .entry)) (now (columns .entry)))) (child ∷ []) ⌝ }
+{
+    is_fit_child(head, nodes, columns, child)
+}
+
+/// Whether two children are fit.
+fn are_two_fit<K: Key>(
+    head: &Head,
+    nodes: &[Node],
+    columns: &[ColumnStatistics<K>],
+    left: usize,
+    right: usize,
+) -> bool
+    ensures { λ r. ⌜ r ≡ every (fit-child relation (sheet-of (now (head .entry)) (now (nodes .entry)) (now (columns .entry)))) (left ∷ right ∷ []) ⌝ }
+{
+    is_fit_child(head, nodes, columns, left) && is_one_fit(head, nodes, columns, right)
+}
+
 /// Whether one child's block, and a block of so many columns more, fit column
 /// memory.
-fn fits_columns<K: Key>(
+fn fits_one<K: Key>(
     head: &Head,
     columns: &[ColumnStatistics<K>],
     child: &Node,
@@ -193,28 +247,57 @@ fn fits_columns<K: Key>(
     has_column_room(head, columns, width) && is_block_inside(head.used, child)
 }
 
-/// Whether the rows of a node can be limited.
-pub(crate) fn check_limit<K: Key>(
+/// Whether two children's blocks, and a block of so many columns more, fit
+/// column memory.
+fn fits_two<K: Key>(
+    head: &Head,
+    columns: &[ColumnStatistics<K>],
+    left: &Node,
+    right: &Node,
+    width: usize,
+) -> bool
+    ensures { λ r. ⌜ r ≡ (leb (now (head .entry) .used + width) (length (now (columns .entry))) && (leb (now (left .entry) .place + now (left .entry) .width) (now (head .entry) .used) && (leb (now (right .entry) .place + now (right .entry) .width) (now (head .entry) .used) && true))) ⌝ }
+{
+    has_column_room(head, columns, width)
+        && is_block_inside(head.used, left)
+        && is_block_inside(head.used, right)
+}
+
+/// The causes of 1 to 6 of an order on one child, which makes so many columns.
+pub(crate) fn check_one<K: Key>(
     head: &Head,
     nodes: &[Node],
     columns: &[ColumnStatistics<K>],
     child: usize,
-    skip: u64,
-    fetch: Option<u64>,
-) -> Result<Node, Refusal>
-    ensures { λ r. ⌜ r ≡ checked-with (order-refusal relation no-figure (sheet-of (now (head .entry)) (now (nodes .entry)) (now (columns .entry))) (limit child skip fetch)) (getD (now (nodes .entry)) (child - 1) no-node) ⌝ }
+    counts: bool,
+    inside: bool,
+    width: usize,
+) -> Result<(), Refusal>
+    ensures { λ r. ⌜ r ≡ checked (one-child relation (sheet-of (now (head .entry)) (now (nodes .entry)) (now (columns .entry))) child counts inside width) ⌝ }
 {
-    refuse_unless(has_node_room(head, nodes), Refusal::NodeMemory)?;
-    refuse_unless(is_fit_child(head, nodes, columns, child), Refusal::Child)?;
     let node = node_of(nodes, child);
-    refuse_unless(node.width <= MAX_WIDTH, Refusal::Width)?;
-    refuse_unless(
-        fits_columns(head, columns, &node, node.width),
-        Refusal::ColumnMemory,
-    )?;
-    let rows = limited_rows(skip, fetch, node.rows);
-    refuse_unless(rows.is_at_most(MAX_COUNT), Refusal::Rows)?;
-    let bytes = rescale_byte_size(node.bytes, node.rows, rows);
-    refuse_unless(bytes.is_at_most(MAX_NODE_BYTES), Refusal::Bytes)?;
-    Ok(node)
+    let room = has_node_room(head, nodes);
+    let fit = is_one_fit(head, nodes, columns, child);
+    let memory = fits_one(head, columns, &node, width);
+    first_cause(room, fit, counts, inside, width <= MAX_WIDTH, memory)
+}
+
+/// The causes of 1 to 6 of an order on two children, which makes so many columns.
+pub(crate) fn check_two<K: Key>(
+    head: &Head,
+    nodes: &[Node],
+    columns: &[ColumnStatistics<K>],
+    left: usize,
+    right: usize,
+    counts: bool,
+    inside: bool,
+    width: usize,
+) -> Result<(), Refusal>
+    ensures { λ r. ⌜ r ≡ checked (two-children relation (sheet-of (now (head .entry)) (now (nodes .entry)) (now (columns .entry))) left right counts inside width) ⌝ }
+{
+    let (l, r) = (node_of(nodes, left), node_of(nodes, right));
+    let room = has_node_room(head, nodes);
+    let fit = are_two_fit(head, nodes, columns, left, right);
+    let memory = fits_two(head, columns, &l, &r, width);
+    first_cause(room, fit, counts, inside, width <= MAX_WIDTH, memory)
 }
