@@ -207,6 +207,7 @@ module _ {K : Type 0} (estimate : Question K → Option Figure) where
     pub counts : count-fits o ≡ true
     pub space : s .head .used + length (made estimate s o .columns) ≤ length (s .columns)
     pub wide : length (made estimate s o .columns) ≡ width-of s o
+    pub blocks : every (λ n. block-inside s (node-at s n)) (children o) ≡ true
 
   unless-none : (b : Bool) (r : Refusal) (n : Option Refusal) → unless b r n ≡ None → (b ≡ true) × (n ≡ None)
   unless-none true r n e = (refl, e)
@@ -230,6 +231,7 @@ module _ {K : Type 0} (estimate : Question K → Option Figure) where
         counts = c .0;
         space = made-fits estimate s o (f .0);
         wide = made-wide estimate s o (f .0);
+        blocks = and-parts (leb (s .head .used + width-of s o) (length (s .columns))) (every (λ n. block-inside s (node-at s n)) (children o)) (f .0) .1;
       }
 
   child-stands : (relation : K → K → Relation) (s : Sheet K) (n : ℕ) → fit-child relation s n ≡ true → (1 ≤ n) × (n ≤ s .head .count)

@@ -9,6 +9,7 @@ use Rattle.std.specs.Options.{mapped, orOther}
 use Rattle.std.specs.declared.option.Option.{Option}
 use Rattle.std.specs.declared.option.Option.the-variants.{Some, None}
 use Rattle.keys.specs.declared.Relation.{Relation}
+use Rattle.stats.specs.declared.exactness.Precision.{Precision}
 use Rattle.stats.specs.declared.columns.ColumnStatistics.{ColumnStatistics}
 use Rattle.stats.specs.Precisions.{at-most}
 use Rattle.stats.specs.Limits.{max-count, max-node-bytes}
@@ -184,10 +185,11 @@ two-children relation s l r counts inside width =
     (unless (leb (s .head .used + width) (length (s .columns)) && every (λ n. block-inside s (node-at s n)) (l ∷ r ∷ [])) refusal.ColumnMemory None)))))
 
 -- 7 and 8, from what the order makes
+abbrev pub sizes : Precision ℕ → Precision ℕ → Option Refusal
+sizes rows bytes = unless (at-most max-count rows) refusal.Rows (unless (at-most max-node-bytes bytes) refusal.Bytes None)
+
 abbrev pub size-refusal : {K : Type 0} → Made K → Option Refusal
-size-refusal m =
-    unless (at-most max-count (m .rows)) refusal.Rows
-    (unless (at-most max-node-bytes (m .bytes)) refusal.Bytes None)
+size-refusal m = sizes (m .rows) (m .bytes)
 
 abbrev pub order-refusal : {K : Type 0} → (K → K → Relation) → (Question K → Option Figure) → Sheet K → Order K → Option Refusal
 order-refusal relation estimate s o =

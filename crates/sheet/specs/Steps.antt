@@ -63,11 +63,6 @@ abbrev pub checked : Option Refusal → Result (Unit {0}) Refusal
 checked None = Ok tt
 checked (Some r) = Err r
 
--- the same, with what was found
-abbrev pub checked-with : {X : Type 0} → Option Refusal → X → Result X Refusal
-checked-with None x = Ok x
-checked-with (Some r) x = Err r
-
 -- a refusal leaves the sheet as it was
 abbrev pub settled : {K : Type 0} → Option Refusal → Sheet K → Sheet K → Step K
 settled (Some r) s t = stepped (Err r) s

@@ -3,19 +3,26 @@ ghost use mathlib.Core.Path.{_≡_};
 ghost use Prim.Native.Nat.{_+_, _^_, _<_};
 ghost use lib.ListN.{length, set};
 ghost use Rattle.sheet.specs.Sheets.{sheet-of};
-ghost use Rattle.sheet.specs.Calls.{order, lay, cut};
+ghost use Rattle.sheet.specs.Calls.{order, lay, limit, cut};
 ghost use Rattle.sheet.specs.Steps.{stepped, step, no-figure};
 use crate::Head;
 use crate::Node;
 use crate::Operator;
 use crate::Refusal;
+use crate::blocks::Loosened;
+use crate::blocks::LoosenedChange;
+use crate::blocks::copy_block;
 use crate::blocks::put_block;
 use crate::checks::check_cut;
 use crate::checks::check_lay;
+use crate::checks::check_one;
+use crate::checks::check_size;
 use crate::checks::node_of;
+use crate::limits::limited_rows;
 use keys::Key;
 use stats::ColumnStatistics;
 use stats::Precision;
+use stats::rescale_byte_size;
 
 /// Adds a node after the others, and its block to the used part.
 fn add_node(head: &mut Head, nodes: &mut [Node], node: Node) -> usize
@@ -75,4 +82,33 @@ fn cut_on<K: Key>(
     head.count = n;
     head.used = used;
     Ok(n)
+}
+
+/// Limits a node's rows.
+fn limited_on<K: Key>(
+    head: &mut Head,
+    nodes: &mut [Node],
+    columns: &mut [ColumnStatistics<K>],
+    child: usize,
+    skip: u64,
+    fetch: Option<u64>,
+) -> Result<usize, Refusal>
+    ensures { λ r. ⌜ stepped r (sheet-of (now (head .exit)) (now (nodes .exit)) (now (columns .exit))) ≡ step relation no-figure (order (limit child skip fetch)) (sheet-of (now (head .entry)) (now (nodes .entry)) (now (columns .entry))) ⌝ }
+{
+    let from = node_of(nodes, child);
+    check_one(head, nodes, columns, child, true, true, from.width)?;
+    let rows = limited_rows(skip, fetch, from.rows);
+    let bytes = rescale_byte_size(from.bytes, from.rows, rows);
+    check_size(rows, bytes)?;
+    let place = head.used;
+    copy_block(columns, from.place, from.width, place, &Loosened { rows });
+    let node = Node {
+        rows,
+        bytes,
+        place,
+        width: from.width,
+        figure: None,
+        operator: Operator::Limit { child, skip, fetch },
+    };
+    Ok(add_node(head, nodes, node))
 }

@@ -14,7 +14,7 @@ ghost use Rattle.std.specs.declared.result.Result.the-variants.{Ok, Err};
 ghost use Rattle.stats.specs.Every.{every};
 ghost use Rattle.sheet.specs.Sheets.{sheet-of, no-node, node-at};
 ghost use Rattle.sheet.specs.Calls.{lay};
-ghost use Rattle.sheet.specs.Causes.{unless, one-child, two-children, in-limits, columns-sound, fit-child, block-inside, first-unsound, order-refusal, cut-inside, cut-refusal, max-nodes};
+ghost use Rattle.sheet.specs.Causes.{unless, sizes, one-child, two-children, in-limits, columns-sound, fit-child, block-inside, first-unsound, order-refusal, cut-inside, cut-refusal, max-nodes};
 ghost use Rattle.sheet.specs.Steps.{no-figure, checked};
 use crate::Head;
 use crate::Node;
@@ -203,7 +203,7 @@ fn first_cause(
 
 /// The least cause of 7 and 8.
 pub(crate) fn check_size(rows: Precision<u64>, bytes: Precision<u64>) -> Result<(), Refusal>
-    ensures { λ r. ⌜ r ≡ checked (unless (at-most max-count rows) refusal.Rows (unless (at-most max-node-bytes bytes) refusal.Bytes None)) ⌝ }
+    ensures { λ r. ⌜ r ≡ checked (sizes rows bytes) ⌝ }
 {
     refuse_unless(rows.is_at_most(MAX_COUNT), Refusal::Rows)?;
     refuse_unless(bytes.is_at_most(MAX_NODE_BYTES), Refusal::Bytes)
