@@ -8,6 +8,9 @@ use Rattle.stats.specs.declared.exactness.Precision.the-variants.{Exact, Inexac
 use Rattle.stats.specs.Precisions.{both, paired, total}
 use Rattle.stats.specs.Scaling.{scaled}
 use Rattle.stats.specs.Bytes.{rescaled-bytes}
+use Rattle.stats.specs.Trim.{trimmed}
+use Rattle.stats.specs.declared.columns.ColumnStatistics.{ColumnStatistics}
+use lib.IntN.{ℤ}
 use Rattle.std.specs.declared.option.Option.{Option}
 use Rattle.std.specs.declared.option.Option.the-variants.{Some, None}
 use Rattle.keys.specs.declared.kinds.Whole.{Whole}
@@ -33,6 +36,20 @@ abbrev pub first-of : Precision ℕ → Precision ℕ → Precision ℕ → ℕ 
 first-of all size empty most =
     let part = both min all (Exact most) in
     record { rows = part; bytes = rescaled-bytes size all part; nulls = scaled-by empty (paired all part) }
+
+-- a table's rows, and its key trimmed to them
+abbrev pub keyed : Precision ℕ → ColumnStatistics Whole → KeyedRows
+keyed all key = record { rows = all; key = trimmed all key }
+
+-- payers whose numbers are known to go from low to high
+abbrev pub payers-of : Precision ℕ → Precision ℕ → ℤ → ℤ → ColumnStatistics Whole
+payers-of nulls distincts low high = record {
+  «null_count» = nulls;
+  «distinct_count» = distincts;
+  «byte_size» = Absent;
+  «min_value» = Exact (record { 0 = low });
+  «max_value» = Exact (record { 0 = high });
+}
 
 -- the one column of each table is its key
 abbrev pub key-question : JoinType → KeyedRows → KeyedRows → Question Whole

@@ -1,6 +1,9 @@
 //! Looks through the payment tables of a cooperative's houses: adds up their
 //! rows, trims what is known of their payers, sizes a part of each table, and
 //! estimates the joins of one house's members to its payments.
+ghost use mathlib.Core.Path.{_≡_};
+ghost use Rattle.planner.specs.Tables.{keyed, payers-of};
+
 mod tables;
 
 use estimators::Chain;
@@ -36,7 +39,9 @@ struct Table {
 
 impl Table {
     /// The rows, and the payers trimmed to them.
-    fn keys(&self) -> KeyedRows {
+    fn keys(&self) -> KeyedRows
+        ensures { λ r. ⌜ r ≡ keyed (now (self .entry) .rows) (now (self .entry) .payer) ⌝ }
+    {
         KeyedRows {
             rows: self.rows,
             key: self.payer.trim(self.rows),
@@ -49,7 +54,9 @@ fn known_payers(
     distincts: Precision<u64>,
     low: i64,
     high: i64,
-) -> ColumnStatistics<Whole> {
+) -> ColumnStatistics<Whole>
+    ensures { λ r. ⌜ r ≡ payers-of nulls distincts low high ⌝ }
+{
     ColumnStatistics {
         null_count: nulls,
         distinct_count: distincts,
