@@ -23,7 +23,8 @@ use Rattle.estimators.specs.KeyColumns.{keys-from}
 use Rattle.estimators.specs.Widest.{inner-rows}
 use Rattle.estimators.specs.WidestFigures.{widest-figure}
 use Rattle.estimators.specs.Product.{divisor, joined-by, product-of, product-figure}
-use Rattle.estimators.specs.Bounds.{semi-type, anti-type, outer-type, Bounds}
+use Rattle.questions.specs.Types.{semi-type, anti-type}
+use Rattle.estimators.specs.Bounds.{outer-type, Bounds}
 use Rattle.estimators.proofs.WidestLaws.{widest-shares}
 use Rattle.estimators.proofs.ProductLaws.{product-shares}
 

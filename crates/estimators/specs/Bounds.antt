@@ -14,18 +14,11 @@ use Rattle.questions.specs.declared.types.JoinSide.the-variants.{Left, Right}
 use Rattle.questions.specs.declared.types.NullEquality.{NullEquality}
 use Rattle.questions.specs.declared.figures.Figure.{Figure}
 use Rattle.questions.specs.Figures.{amount}
+use Rattle.questions.specs.Types.{semi-type, anti-type}
 use Rattle.questions.specs.Questions.{Question, of-type, this-input}
 use Rattle.estimators.specs.declared.pairs.KeyColumns.{KeyColumns}
 use Rattle.estimators.specs.KeyColumns.{turned}
 use Rattle.estimators.specs.Disjoint.{disjoint-pair}
-
-abbrev pub semi-type : JoinSide → JoinType
-semi-type Left = join.LeftSemi
-semi-type Right = join.RightSemi
-
-abbrev pub anti-type : JoinSide → JoinType
-anti-type Left = join.LeftAnti
-anti-type Right = join.RightAnti
 
 abbrev pub outer-type : JoinSide → JoinType
 outer-type Left = join.Left

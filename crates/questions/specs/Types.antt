@@ -35,6 +35,15 @@ mirror RightAnti = LeftAnti
 mirror LeftMark = RightMark
 mirror RightMark = LeftMark
 
+-- the semi and the anti join that keep a side
+abbrev pub semi-type : JoinSide → JoinType
+semi-type side.Left = LeftSemi
+semi-type side.Right = RightSemi
+
+abbrev pub anti-type : JoinSide → JoinType
+anti-type side.Left = LeftAnti
+anti-type side.Right = RightAnti
+
 abbrev pub opposite : JoinSide → JoinSide
 opposite side.Left = side.Right
 opposite side.Right = side.Left

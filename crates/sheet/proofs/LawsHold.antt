@@ -27,7 +27,7 @@ use Rattle.questions.specs.declared.types.KeySide.the-variants.{Column, Express
 use Rattle.questions.specs.declared.types.KeyPair.{KeyPair}
 use Rattle.questions.specs.declared.figures.Figure.{Figure}
 use Rattle.questions.specs.declared.figures.Figure.the-variants as figure
-use Rattle.questions.specs.Types.{mirror, exchanged}
+use Rattle.questions.specs.Types.{mirror, exchanged, semi-type, anti-type}
 use Rattle.questions.specs.Figures.{rows-of, amount}
 use Rattle.questions.specs.Questions.{Question}
 use Rattle.questions.specs.Laws.{AddUp, Shares, Mirrors}
@@ -35,7 +35,7 @@ use Rattle.sheet.specs.declared.Node.{Node}
 use Rattle.sheet.specs.Shorts.{listed}
 use Rattle.sheet.specs.Sheets.{Sheet, Table, Standing, node-at, block, table-at}
 use Rattle.sheet.specs.Made.{Made, unknowns, join-question, combined, key-of, key-columns, part-by, part, marked, joined-by, joined}
-use Rattle.sheet.specs.Laws.{Reached, Joins, AsksEstimator, semi-of, anti-of, kept-child, RowsAddUp, ShareBy, Share, seen-mirrored, SameTable, Laws, LawsOverRuns}
+use Rattle.sheet.specs.Laws.{Reached, Joins, AsksEstimator, kept-child, RowsAddUp, ShareBy, Share, seen-mirrored, SameTable, Laws, LawsOverRuns}
 use Rattle.sheet.proofs.Widths.{block-length}
 use Rattle.sheet.proofs.Sound.{nth, end, Holds, JoinHolds, Sound, reached-sound}
 
@@ -208,7 +208,7 @@ module _ {K : Type 0} (estimate : Question K → Option Figure) (shares : Shares
       let k = join-at n t rule l r pairs j in
       block-length s (node-at s l) (h .ends (l - 1) (omega (arith, k .left-from, k .left-below, place n (j .stands)))) (h .within)
 
-  share-at : (side : JoinSide) (n m : ℕ) (rule : NullEquality) (l r : ℕ) (pairs : List KeyPair) → Joins s n (semi-of side) rule l r pairs → Joins s m (anti-of side) rule l r pairs → Share (node-at s n) (node-at s m) (node-at s (kept-child side l r) .rows)
+  share-at : (side : JoinSide) (n m : ℕ) (rule : NullEquality) (l r : ℕ) (pairs : List KeyPair) → Joins s n (semi-type side) rule l r pairs → Joins s m (anti-type side) rule l r pairs → Share (node-at s n) (node-at s m) (node-at s (kept-child side l r) .rows)
   share-at Left n m rule l r pairs i j =
       held-share (s .columns) (node-at s n) (node-at s m) _ _ _ (made-at n type.LeftSemi rule l r pairs i) (made-at m type.LeftAnti rule l r pairs j)
       (parts-share rule (key-columns Left pairs) (table-at s l) _ _ (shares .left (join-question type.LeftSemi rule pairs (table-at s l) (table-at s r))))

@@ -18,7 +18,7 @@ use Rattle.questions.specs.declared.types.JoinSide.the-variants.{Left, Right}
 use Rattle.questions.specs.declared.types.NullEquality.{NullEquality}
 use Rattle.questions.specs.declared.types.KeyPair.{KeyPair}
 use Rattle.questions.specs.declared.figures.Figure.{Figure}
-use Rattle.questions.specs.Types.{mirror, exchanged}
+use Rattle.questions.specs.Types.{mirror, exchanged, semi-type, anti-type}
 use Rattle.questions.specs.Questions.{Question}
 use Rattle.questions.specs.Laws.{Shares, Mirrors}
 use Rattle.sheet.specs.declared.Node.{Node}
@@ -58,14 +58,6 @@ AsksEstimator type.LeftAnti = Unit {0}
 AsksEstimator type.RightAnti = Unit {0}
 AsksEstimator type.LeftMark = ⊥
 AsksEstimator type.RightMark = ⊥
-
-abbrev pub semi-of : JoinSide → JoinType
-semi-of Left = type.LeftSemi
-semi-of Right = type.RightSemi
-
-abbrev pub anti-of : JoinSide → JoinType
-anti-of Left = type.LeftAnti
-anti-of Right = type.RightAnti
 
 -- the child that a semi or an anti join keeps
 abbrev pub kept-child : JoinSide → ℕ → ℕ → ℕ
@@ -127,7 +119,7 @@ pub record Laws {K : Type 0} (estimate : Question K → Option Figure) (s : Shee
   -- a join holds just the figure that the estimator has for its question
   pub figures : (n : ℕ) (t : JoinType) (rule : NullEquality) (l r : ℕ) (pairs : List KeyPair) → Joins s n t rule l r pairs → AsksEstimator t → node-at s n .figure ≡ estimate (join-question t rule pairs (table-at s l) (table-at s r))
   -- a semi and an anti join of the same children by the same keys
-  pub shares : (n m : ℕ) (side : JoinSide) (rule : NullEquality) (l r : ℕ) (pairs : List KeyPair) → Joins s n (semi-of side) rule l r pairs → Joins s m (anti-of side) rule l r pairs → Share (node-at s n) (node-at s m) (node-at s (kept-child side l r) .rows)
+  pub shares : (n m : ℕ) (side : JoinSide) (rule : NullEquality) (l r : ℕ) (pairs : List KeyPair) → Joins s n (semi-type side) rule l r pairs → Joins s m (anti-type side) rule l r pairs → Share (node-at s n) (node-at s m) (node-at s (kept-child side l r) .rows)
   -- a join and its mirror
   pub mirrors : (n m : ℕ) (t : JoinType) (rule : NullEquality) (l r : ℕ) (pairs : List KeyPair) → Joins s n t rule l r pairs → Joins s m (mirror t) rule r l (map exchanged pairs) → SameTable (s .columns) (seen-mirrored t (node-at s l .width)) (node-at s n) (node-at s m)
 
