@@ -1,5 +1,7 @@
 //! Estimators of the rows of a join: by the widest key, by the product of all
 //! keys, and chains of estimators.
+#![tactic(auto)]
+
 ghost use Rattle.std.specs.Prelude.{◌≡◌, true};
 ghost use Rattle.std.specs.Option.{option_or};
 ghost use Rattle.questions.specs.Questions.{asked};

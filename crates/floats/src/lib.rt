@@ -1,4 +1,6 @@
 //! Counts in IEEE 754 binary64.
+#![tactic(auto)]
+
 ghost use Rattle.std.specs.Prelude.{◌≡◌};
 ghost use Rattle.floats.specs.Counts.{rescaled, Rescaled};
 

@@ -1,5 +1,7 @@
 //! Key kinds: the values that a column's ends are, how two of them stand to
 //! each other, and how many lie in a range.
+#![tactic(auto)]
+
 ghost use Rattle.std.specs.Prelude.{◌≡◌, ℕ, Option};
 ghost use Rattle.keys.specs.declared.Relation.{Relation};
 ghost use Rattle.keys.specs.Laws.{Lawful};

@@ -1,5 +1,7 @@
 //! The orders in which the tables of the report can be joined, and the choice
 //! of one.
+#![tactic(auto)]
+
 ghost use Rattle.std.specs.Prelude.{◌≡◌, [], ◌∷◌, map, nat_lt};
 ghost use Rattle.orders.specs.declared.Table.TheVariants.{Payments, Members, Flats, Lifts};
 ghost use Rattle.orders.specs.Orders.{number, width, to_next, tables, by_keys, permutations, offset, pair_with_next, pair_with_last, pair_to};

@@ -1,6 +1,8 @@
 //! Looks through the payment tables of a cooperative's houses: adds up their
 //! rows, trims what is known of their payers, sizes a part of each table, and
 //! estimates the joins of one house's members to its payments.
+#![tactic(auto)]
+
 ghost use Rattle.std.specs.Prelude.{◌≡◌};
 ghost use Rattle.planner.specs.Tables.{keyed, payers_of};
 

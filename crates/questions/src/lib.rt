@@ -1,5 +1,7 @@
 //! Questions about the rows of a join, and the interface of those who answer
 //! them.
+#![tactic(auto)]
+
 ghost use Rattle.std.specs.Prelude.{◌≡◌, Option};
 ghost use Rattle.questions.specs.declared.figures.Figure.{Figure};
 ghost use Rattle.questions.specs.Questions.{Question, asked, this_input};

@@ -1,4 +1,6 @@
 //! A sheet of estimates: nodes and their columns, in memory that is handed in.
+#![tactic(auto)]
+
 ghost use Rattle.std.specs.Prelude.{◌≡◌};
 ghost use Rattle.sheet.specs.Sheets.{Sheet, sheet_of};
 ghost use Rattle.sheet.specs.Calls.{lay, join_of, cross, limit, union, group_of, order, cut};

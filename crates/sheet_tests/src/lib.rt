@@ -1,4 +1,6 @@
 //! The calls of a sheet by example, over memory of many kinds.
+#![tactic(auto)]
+
 ghost use Rattle.std.specs.Prelude.{◌≡◌};
 ghost use Rattle.stats.specs.declared.exactness.Precision.TheVariants.{Absent};
 ghost use Rattle.sheet.specs.Sheets.{no_node};

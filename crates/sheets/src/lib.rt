@@ -1,4 +1,6 @@
 //! A sheet that owns its memory and its estimator.
+#![tactic(auto)]
+
 ghost use Rattle.std.specs.Prelude.{◌≡◌, IfOk};
 ghost use Rattle.sheet.specs.Calls.{lay, join_of, cross, limit, union, group_of, order, cut};
 ghost use Rattle.sheet.specs.Least.{read_clear, Least};

@@ -1,6 +1,8 @@
 //! Plans the report of a service charge statement: who owes what for the lifts.
 //! Lays the tables of a cooperative on a sheet, estimates their joins in every
 //! order that the keys allow, chooses one, and sizes the parts of the report.
+#![tactic(auto)]
+
 use estimators::{Chain, Product, Widest};
 use keys::Whole;
 use orders::{Order, Table, choose, cost, orders, pair_to};

@@ -1,5 +1,7 @@
 //! What is known of a table's rows and columns: counts with their exactness,
 //! and the limits that counts keep.
+#![tactic(auto)]
+
 mod bytes;
 mod columns;
 mod distincts;

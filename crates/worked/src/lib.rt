@@ -1,5 +1,7 @@
 //! Worked cases of the definitions, computed by the prover: numbers that a
 //! reader can check by hand.
+#![tactic(auto)]
+
 ghost use Rattle.worked.specs.Cases.{WorkedCases};
 ghost use Rattle.worked.specs.SheetCases.{SheetCases};
 
