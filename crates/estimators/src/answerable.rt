@@ -8,7 +8,7 @@ use questions::{JoinInput, JoinQuestion, MAX_PAIRS, are_pairs_inside};
 use stats::{MAX_COUNT, all_sound};
 
 fn is_input_sound<K: Key>(table: &JoinInput<'_, K>) -> bool
-    ensures { result ≡ input_sound relation (input table.now) }
+    ensures { result ≡ input_sound K.relation (input table.now) }
 {
     table.num_rows.is_at_most(MAX_COUNT) && all_sound(table.columns)
 }
@@ -16,7 +16,7 @@ fn is_input_sound<K: Key>(table: &JoinInput<'_, K>) -> bool
 /// Whether a question has at most 16 key pairs, keys inside its tables, counts
 /// inside the limits, and lawful columns.
 pub fn is_answerable<K: Key>(question: &JoinQuestion<'_, '_, '_, K>) -> bool
-    ensures { result ≡ answerable relation (asked question.now) }
+    ensures { result ≡ answerable K.relation (asked question.now) }
 {
     question.on.len() <= MAX_PAIRS
         && are_pairs_inside(

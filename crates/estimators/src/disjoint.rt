@@ -37,7 +37,7 @@ fn is_low_past_high<K: Key>(
     column: &ColumnStatistics<K>,
     other: &ColumnStatistics<K>,
 ) -> Precision<u64>
-    ensures { result ≡ low_past_high relation column.now other.now }
+    ensures { result ≡ low_past_high K.relation column.now other.now }
 {
     match column.min_value.zip(other.max_value) {
         Precision::Exact((low, high)) if low.compare(high) == Relation::After => {
@@ -52,7 +52,7 @@ fn is_low_past_high<K: Key>(
 
 /// 0 where the ranges of the two columns have no value in common.
 fn are_ranges_apart<K: Key>(columns: &KeyColumns<K>) -> Precision<u64>
-    ensures { result ≡ ranges_apart relation columns.now }
+    ensures { result ≡ ranges_apart K.relation columns.now }
 {
     match is_low_past_high(&columns.this, &columns.other) {
         Precision::Absent => is_low_past_high(&columns.other, &columns.this),
@@ -75,7 +75,7 @@ fn is_no_null_matched<K: Key>(rule: NullEquality, columns: &KeyColumns<K>) -> Pr
 
 /// 0 where a pair is disjoint, Exact if what shows it is.
 fn estimate_disjoint_pair<K: Key>(rule: NullEquality, columns: &KeyColumns<K>) -> Precision<u64>
-    ensures { result ≡ disjoint_pair relation rule columns.now }
+    ensures { result ≡ disjoint_pair K.relation rule columns.now }
 {
     match are_ranges_apart(columns).zip(is_no_null_matched(rule, columns)) {
         Precision::Exact(_) => Precision::Exact(0),
@@ -90,7 +90,7 @@ pub(crate) fn estimate_disjoint_inputs<K: Key>(
     question: &JoinQuestion<'_, '_, '_, K>,
     side: JoinSide,
 ) -> Precision<u64>
-    ensures { result ≡ disjoint relation question.now.null_equality (keys_from side (asked question.now)) }
+    ensures { result ≡ disjoint K.relation question.now.null_equality (keys_from side (asked question.now)) }
 {
     for pair in question.on {
         let columns = key_columns(question, *pair, side);

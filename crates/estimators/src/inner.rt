@@ -31,14 +31,14 @@ fn max_of_pair<K: Key>(
     others: Precision<u64>,
     columns: &KeyColumns<K>,
 ) -> Precision<u64>
-    ensures { result ≡ pair_width size rows others columns.now }
+    ensures { result ≡ pair_width K.size rows others columns.now }
 {
     max_distinct_count(rows, &columns.this).max(max_distinct_count(others, &columns.other))
 }
 
 /// The most distinct values that a key of the join can have.
 fn widest_key<K: Key>(question: &JoinQuestion<'_, '_, '_, K>) -> Precision<u64>
-    ensures { result ≡ widest size question.now.left.num_rows question.now.right.num_rows (keys_from Left (asked question.now)) }
+    ensures { result ≡ widest K.size question.now.left.num_rows question.now.right.num_rows (keys_from Left (asked question.now)) }
 {
     let mut most = Precision::Absent;
     for pair in question.on {
@@ -69,8 +69,8 @@ fn matching_rows(
 pub(crate) fn estimate_inner_join_cardinality<K: Key>(
     question: &JoinQuestion<'_, '_, '_, K>,
 ) -> Precision<u64>
-    requires { answerable relation (asked question.now) ≡ true }
-    ensures { result ≡ inner_rows relation size (asked question.now) }
+    requires { answerable K.relation (asked question.now) ≡ true }
+    ensures { result ≡ inner_rows K.relation K.size (asked question.now) }
 {
     let (left, right) = (question.left.num_rows, question.right.num_rows);
     let apart = estimate_disjoint_inputs(question, JoinSide::Left);

@@ -30,8 +30,8 @@ pub use answerable::is_answerable;
 
 /// Rows of an outer join: at least those of its outer side.
 fn outer_figure<K: Key>(question: &JoinQuestion<'_, '_, '_, K>, side: JoinSide) -> Option<Figure>
-    requires { answerable relation (asked question.now) ≡ true }
-    ensures { result ≡ at_least relation size (asked question.now) side }
+    requires { answerable K.relation (asked question.now) ≡ true }
+    ensures { result ≡ at_least K.relation K.size (asked question.now) side }
 {
     let inner = estimate_inner_join_cardinality(question);
     Figure::from_precision(inner.max(question.rows_on(side)))
@@ -39,8 +39,8 @@ fn outer_figure<K: Key>(question: &JoinQuestion<'_, '_, '_, K>, side: JoinSide) 
 
 /// Rows of a full join: those of both outer joins, the matches counted once.
 fn full_join_figure<K: Key>(question: &JoinQuestion<'_, '_, '_, K>) -> Option<Figure>
-    requires { answerable relation (asked question.now) ≡ true }
-    ensures { result ≡ full_figure relation size (asked question.now) }
+    requires { answerable K.relation (asked question.now) ≡ true }
+    ensures { result ≡ full_figure K.relation K.size (asked question.now) }
 {
     let inner = estimate_inner_join_cardinality(question);
     let left = inner.max(question.left.num_rows);
@@ -50,7 +50,7 @@ fn full_join_figure<K: Key>(question: &JoinQuestion<'_, '_, '_, K>) -> Option<Fi
 
 /// The rows of a side that have a match.
 fn kept_figure<K: Key>(question: &JoinQuestion<'_, '_, '_, K>, side: JoinSide) -> Option<Figure>
-    ensures { result ≡ semi_figure relation size (asked question.now) side }
+    ensures { result ≡ semi_figure K.relation K.size (asked question.now) side }
 {
     let rows = estimate_semi_join_cardinality(question, side)?;
     Some(Figure::Inexact(rows))
@@ -58,7 +58,7 @@ fn kept_figure<K: Key>(question: &JoinQuestion<'_, '_, '_, K>, side: JoinSide) -
 
 /// The rows of a side that have none.
 fn rest_figure<K: Key>(question: &JoinQuestion<'_, '_, '_, K>, side: JoinSide) -> Option<Figure>
-    ensures { result ≡ anti_figure relation size (asked question.now) side }
+    ensures { result ≡ anti_figure K.relation K.size (asked question.now) side }
 {
     let rows = estimate_semi_join_cardinality(question, side)?;
     let all = question.rows_on(side);

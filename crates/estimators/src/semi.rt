@@ -40,7 +40,7 @@ fn factor_of<K: Key>(
     others: Precision<u64>,
     columns: &KeyColumns<K>,
 ) -> Option<f64>
-    ensures { result ≡ pair_factor size rule rows kept others columns.now }
+    ensures { result ≡ pair_factor K.size rule rows kept others columns.now }
 {
     if !(has_statistics_of(&columns.this) && has_statistics_of(&columns.other)) {
         return None;
@@ -75,7 +75,7 @@ fn selectivity_of<K: Key>(
     kept: Precision<u64>,
     others: Precision<u64>,
 ) -> Option<f64>
-    ensures { result ≡ selectivity size question.now.null_equality rows kept others (keys_from side (asked question.now)) }
+    ensures { result ≡ selectivity K.size question.now.null_equality rows kept others (keys_from side (asked question.now)) }
 {
     let mut so_far = None;
     for pair in question.on {
@@ -91,7 +91,7 @@ pub(crate) fn estimate_semi_join_cardinality<K: Key>(
     question: &JoinQuestion<'_, '_, '_, K>,
     side: JoinSide,
 ) -> Option<u64>
-    ensures { result ≡ semi_rows relation size side (asked question.now) }
+    ensures { result ≡ semi_rows K.relation K.size side (asked question.now) }
 {
     let kept = question.rows_on(side);
     let others = question.rows_on(side.opposite());

@@ -33,7 +33,7 @@ pub(crate) fn laid_on<K: Key>(
     bytes: Precision<u64>,
     laid: &[ColumnStatistics<K>],
 ) -> Result<usize, Refusal>
-    ensures { stepped result (sheet_of head.new nodes.new columns.new) ≡ step relation no_figure (order (lay rows bytes laid.now)) (sheet_of head.old nodes.old columns.old) }
+    ensures { stepped result (sheet_of head.new nodes.new columns.new) ≡ step K.relation no_figure (order (lay rows bytes laid.now)) (sheet_of head.old nodes.old columns.old) }
 {
     check_lay(head, nodes, columns, rows, bytes, laid)?;
     let place = head.used;
@@ -56,7 +56,7 @@ pub(crate) fn cut_on<K: Key>(
     columns: &[ColumnStatistics<K>],
     n: usize,
 ) -> Result<usize, Refusal>
-    ensures { stepped result (sheet_of head.new nodes.now columns.now) ≡ step relation no_figure (cut n) (sheet_of head.old nodes.now columns.now) }
+    ensures { stepped result (sheet_of head.new nodes.now columns.now) ≡ step K.relation no_figure (cut n) (sheet_of head.old nodes.now columns.now) }
 {
     check_cut(head, nodes, columns, n)?;
     let used = if n == 0 {

@@ -39,7 +39,7 @@ fn is_in_limits(node: &Node) -> bool
 
 /// The first column that is over the limits or unlawful.
 pub(crate) fn find_unsound<K: Key>(laid: &[ColumnStatistics<K>]) -> Option<usize>
-    ensures { result ≡ first_unsound relation laid.now }
+    ensures { result ≡ first_unsound K.relation laid.now }
 {
     for (i, column) in laid.iter().enumerate() {
         if !column.is_sound() {
@@ -93,7 +93,7 @@ pub(crate) fn check_lay<K: Key>(
     bytes: Precision<u64>,
     laid: &[ColumnStatistics<K>],
 ) -> Result<(), Refusal>
-    ensures { result ≡ checked (order_refusal relation no_figure (sheet_of head.now nodes.now columns.now) (lay rows bytes laid.now)) }
+    ensures { result ≡ checked (order_refusal K.relation no_figure (sheet_of head.now nodes.now columns.now) (lay rows bytes laid.now)) }
 {
     refuse_unless(has_node_room(head, nodes), Refusal::NodeMemory)?;
     refuse_unless(laid.len() <= MAX_WIDTH, Refusal::Width)?;
@@ -128,7 +128,7 @@ pub(crate) fn node_of(nodes: &[Node], n: usize) -> Node
 
 /// Whether a node's columns are sound, as far as they can be read.
 fn are_columns_sound<K: Key>(head: &Head, columns: &[ColumnStatistics<K>], node: &Node) -> bool
-    ensures { (nodes : List Node) → result ≡ columns_sound relation (sheet_of head.now nodes columns.now) node.now }
+    ensures { (nodes : List Node) → result ≡ columns_sound K.relation (sheet_of head.now nodes columns.now) node.now }
 {
     if columns.len() < head.used || !is_block_inside(head.used, node) {
         return true;
@@ -138,7 +138,7 @@ fn are_columns_sound<K: Key>(head: &Head, columns: &[ColumnStatistics<K>], node:
 
 /// Whether a node is inside the limits, and its columns are lawful.
 fn is_fit_node<K: Key>(head: &Head, columns: &[ColumnStatistics<K>], node: &Node) -> bool
-    ensures { (nodes : List Node) → result ≡ (in_limits node.now && columns_sound relation (sheet_of head.now nodes columns.now) node.now) }
+    ensures { (nodes : List Node) → result ≡ (in_limits node.now && columns_sound K.relation (sheet_of head.now nodes columns.now) node.now) }
 {
     is_in_limits(node) && are_columns_sound(head, columns, node)
 }
@@ -150,7 +150,7 @@ pub(crate) fn is_fit_child<K: Key>(
     columns: &[ColumnStatistics<K>],
     n: usize,
 ) -> bool
-    ensures { result ≡ fit_child relation (sheet_of head.now nodes.now columns.now) n }
+    ensures { result ≡ fit_child K.relation (sheet_of head.now nodes.now columns.now) n }
 {
     if n == 0 || head.count < n {
         return false;
@@ -216,7 +216,7 @@ fn is_one_fit<K: Key>(
     columns: &[ColumnStatistics<K>],
     child: usize,
 ) -> bool
-    ensures { result ≡ every (fit_child relation (sheet_of head.now nodes.now columns.now)) (child ∷ []) }
+    ensures { result ≡ every (fit_child K.relation (sheet_of head.now nodes.now columns.now)) (child ∷ []) }
 {
     is_fit_child(head, nodes, columns, child)
 }
@@ -229,7 +229,7 @@ fn are_two_fit<K: Key>(
     left: usize,
     right: usize,
 ) -> bool
-    ensures { result ≡ every (fit_child relation (sheet_of head.now nodes.now columns.now)) (left ∷ right ∷ []) }
+    ensures { result ≡ every (fit_child K.relation (sheet_of head.now nodes.now columns.now)) (left ∷ right ∷ []) }
 {
     is_fit_child(head, nodes, columns, left) && is_one_fit(head, nodes, columns, right)
 }
@@ -277,7 +277,7 @@ pub(crate) fn check_one<K: Key>(
     width: usize,
     more: usize,
 ) -> Result<(), Refusal>
-    ensures { result ≡ checked (one_child relation (sheet_of head.now nodes.now columns.now) child counts inside (width + more)) }
+    ensures { result ≡ checked (one_child K.relation (sheet_of head.now nodes.now columns.now) child counts inside (width + more)) }
 {
     let node = node_of(nodes, child);
     let room = has_node_room(head, nodes);
@@ -299,7 +299,7 @@ pub(crate) fn check_two<K: Key>(
     width: usize,
     more: usize,
 ) -> Result<(), Refusal>
-    ensures { result ≡ checked (two_children relation (sheet_of head.now nodes.now columns.now) left right counts inside (width + more)) }
+    ensures { result ≡ checked (two_children K.relation (sheet_of head.now nodes.now columns.now) left right counts inside (width + more)) }
 {
     let (l, r) = (node_of(nodes, left), node_of(nodes, right));
     let room = has_node_room(head, nodes);

@@ -57,7 +57,7 @@ pub(crate) fn crossed_on<K: Key>(
     l: usize,
     r: usize,
 ) -> Result<usize, Refusal>
-    ensures { stepped result (sheet_of head.new nodes.new columns.new) ≡ step relation no_figure (order (cross l r)) (sheet_of head.old nodes.old columns.old) }
+    ensures { stepped result (sheet_of head.new nodes.new columns.new) ≡ step K.relation no_figure (order (cross l r)) (sheet_of head.old nodes.old columns.old) }
 {
     let left = node_of(nodes, l);
     let right = node_of(nodes, r);

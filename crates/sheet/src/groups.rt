@@ -156,7 +156,7 @@ fn check_group<K: Key>(
     from: &Node,
     grouping: &Grouping<'_>,
 ) -> Result<(), Refusal>
-    ensures { result ≡ checked (one_child relation (sheet_of head.now nodes.now columns.now) grouping.now.child (nat_le (length grouping.now.by.now) max_pairs) (every (key_inside from.now.width) grouping.now.by.now) (length grouping.now.by.now + grouping.now.extras)) }
+    ensures { result ≡ checked (one_child K.relation (sheet_of head.now nodes.now columns.now) grouping.now.child (nat_le (length grouping.now.by.now) max_pairs) (every (key_inside from.now.width) grouping.now.by.now) (length grouping.now.by.now + grouping.now.extras)) }
 {
     let counts = grouping.by.len() <= MAX_PAIRS;
     let inside = are_keys_inside(from.width, grouping.by);
@@ -240,7 +240,7 @@ pub(crate) fn grouped_on<K: Key>(
     columns: &mut [ColumnStatistics<K>],
     grouping: &Grouping<'_>,
 ) -> Result<usize, Refusal>
-    ensures { stepped result (sheet_of head.new nodes.new columns.new) ≡ step relation no_figure (order (group_of grouping.now)) (sheet_of head.old nodes.old columns.old) }
+    ensures { stepped result (sheet_of head.new nodes.new columns.new) ≡ step K.relation no_figure (order (group_of grouping.now)) (sheet_of head.old nodes.old columns.old) }
 {
     let from = node_of(nodes, grouping.child);
     check_group(head, nodes, columns, &from, grouping)?;

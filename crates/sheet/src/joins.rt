@@ -58,7 +58,7 @@ fn check_join<K: Key>(
     right: &Node,
     join: &Join<'_>,
 ) -> Result<(), Refusal>
-    ensures { result ≡ checked (two_children relation (sheet_of head.now nodes.now columns.now) join.now.left join.now.right (nat_le (length join.now.on.now) max_pairs) (every (pair_inside left.now.width right.now.width) join.now.on.now) (join_width join.now.join_type left.now.width right.now.width)) }
+    ensures { result ≡ checked (two_children K.relation (sheet_of head.now nodes.now columns.now) join.now.left join.now.right (nat_le (length join.now.on.now) max_pairs) (every (pair_inside left.now.width right.now.width) join.now.on.now) (join_width join.now.join_type left.now.width right.now.width)) }
 {
     let counts = join.on.len() <= MAX_PAIRS;
     let inside = are_pairs_inside(left.width, right.width, join.on);
@@ -331,7 +331,7 @@ pub(crate) fn joined_on<K: Key, E: Estimator<K>>(
     estimator: &E,
     join: &Join<'_>,
 ) -> Result<usize, Refusal>
-    ensures { stepped result (sheet_of head.new nodes.new columns.new) ≡ step relation (E.Estimator.figure estimator.now) (order (join_of join.now)) (sheet_of head.old nodes.old columns.old) }
+    ensures { stepped result (sheet_of head.new nodes.new columns.new) ≡ step K.relation (E.Estimator.figure estimator.now) (order (join_of join.now)) (sheet_of head.old nodes.old columns.old) }
 {
     let left = node_of(nodes, join.left);
     let right = node_of(nodes, join.right);

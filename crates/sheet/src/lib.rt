@@ -61,8 +61,8 @@ impl Head {
         bytes: Precision<u64>,
         laid: &[ColumnStatistics<K>],
     ) -> Result<usize, Refusal>
-        ensures outcome { OutcomeForAll relation (order (lay rows bytes laid.now)) (sheet_of self.old nodes.old columns.old) result (sheet_of self.new nodes.new columns.new) }
-        ensures keeps { KeepsForAll relation (sheet_of self.old nodes.old columns.old) (sheet_of self.new nodes.new columns.new) }
+        ensures outcome { OutcomeForAll K.relation (order (lay rows bytes laid.now)) (sheet_of self.old nodes.old columns.old) result (sheet_of self.new nodes.new columns.new) }
+        ensures keeps { KeepsForAll K.relation (sheet_of self.old nodes.old columns.old) (sheet_of self.new nodes.new columns.new) }
     {
         laid_on(self, nodes, columns, rows, bytes, laid)
     }
@@ -75,8 +75,8 @@ impl Head {
         estimator: &E,
         join: &Join<'_>,
     ) -> Result<usize, Refusal>
-        ensures outcome { Outcome relation (E.Estimator.figure estimator.now) (order (join_of join.now)) (sheet_of self.old nodes.old columns.old) result (sheet_of self.new nodes.new columns.new) }
-        ensures keeps { Keeps relation (E.Estimator.figure estimator.now) (sheet_of self.old nodes.old columns.old) (sheet_of self.new nodes.new columns.new) }
+        ensures outcome { Outcome K.relation (E.Estimator.figure estimator.now) (order (join_of join.now)) (sheet_of self.old nodes.old columns.old) result (sheet_of self.new nodes.new columns.new) }
+        ensures keeps { Keeps K.relation (E.Estimator.figure estimator.now) (sheet_of self.old nodes.old columns.old) (sheet_of self.new nodes.new columns.new) }
     {
         joined_on(self, nodes, columns, estimator, join)
     }
@@ -89,8 +89,8 @@ impl Head {
         left: usize,
         right: usize,
     ) -> Result<usize, Refusal>
-        ensures outcome { OutcomeForAll relation (order (cross left right)) (sheet_of self.old nodes.old columns.old) result (sheet_of self.new nodes.new columns.new) }
-        ensures keeps { KeepsForAll relation (sheet_of self.old nodes.old columns.old) (sheet_of self.new nodes.new columns.new) }
+        ensures outcome { OutcomeForAll K.relation (order (cross left right)) (sheet_of self.old nodes.old columns.old) result (sheet_of self.new nodes.new columns.new) }
+        ensures keeps { KeepsForAll K.relation (sheet_of self.old nodes.old columns.old) (sheet_of self.new nodes.new columns.new) }
     {
         crossed_on(self, nodes, columns, left, right)
     }
@@ -104,8 +104,8 @@ impl Head {
         skip: u64,
         fetch: Option<u64>,
     ) -> Result<usize, Refusal>
-        ensures outcome { OutcomeForAll relation (order (limit child skip fetch)) (sheet_of self.old nodes.old columns.old) result (sheet_of self.new nodes.new columns.new) }
-        ensures keeps { KeepsForAll relation (sheet_of self.old nodes.old columns.old) (sheet_of self.new nodes.new columns.new) }
+        ensures outcome { OutcomeForAll K.relation (order (limit child skip fetch)) (sheet_of self.old nodes.old columns.old) result (sheet_of self.new nodes.new columns.new) }
+        ensures keeps { KeepsForAll K.relation (sheet_of self.old nodes.old columns.old) (sheet_of self.new nodes.new columns.new) }
     {
         limited_on(self, nodes, columns, child, skip, fetch)
     }
@@ -117,8 +117,8 @@ impl Head {
         columns: &mut [ColumnStatistics<K>],
         children: &[usize],
     ) -> Result<usize, Refusal>
-        ensures outcome { OutcomeForAll relation (order (union children.now)) (sheet_of self.old nodes.old columns.old) result (sheet_of self.new nodes.new columns.new) }
-        ensures keeps { KeepsForAll relation (sheet_of self.old nodes.old columns.old) (sheet_of self.new nodes.new columns.new) }
+        ensures outcome { OutcomeForAll K.relation (order (union children.now)) (sheet_of self.old nodes.old columns.old) result (sheet_of self.new nodes.new columns.new) }
+        ensures keeps { KeepsForAll K.relation (sheet_of self.old nodes.old columns.old) (sheet_of self.new nodes.new columns.new) }
     {
         united_on(self, nodes, columns, children)
     }
@@ -130,8 +130,8 @@ impl Head {
         columns: &mut [ColumnStatistics<K>],
         grouping: &Grouping<'_>,
     ) -> Result<usize, Refusal>
-        ensures outcome { OutcomeForAll relation (order (group_of grouping.now)) (sheet_of self.old nodes.old columns.old) result (sheet_of self.new nodes.new columns.new) }
-        ensures keeps { KeepsForAll relation (sheet_of self.old nodes.old columns.old) (sheet_of self.new nodes.new columns.new) }
+        ensures outcome { OutcomeForAll K.relation (order (group_of grouping.now)) (sheet_of self.old nodes.old columns.old) result (sheet_of self.new nodes.new columns.new) }
+        ensures keeps { KeepsForAll K.relation (sheet_of self.old nodes.old columns.old) (sheet_of self.new nodes.new columns.new) }
     {
         grouped_on(self, nodes, columns, grouping)
     }
@@ -143,8 +143,8 @@ impl Head {
         columns: &[ColumnStatistics<K>],
         n: usize,
     ) -> Result<usize, Refusal>
-        ensures outcome { OutcomeForAll relation (cut n) (sheet_of self.old nodes.now columns.now) result (sheet_of self.new nodes.now columns.now) }
-        ensures keeps { KeepsForAll relation (sheet_of self.old nodes.now columns.now) (sheet_of self.new nodes.now columns.now) }
+        ensures outcome { OutcomeForAll K.relation (cut n) (sheet_of self.old nodes.now columns.now) result (sheet_of self.new nodes.now columns.now) }
+        ensures keeps { KeepsForAll K.relation (sheet_of self.old nodes.now columns.now) (sheet_of self.new nodes.now columns.now) }
     {
         cut_on(self, nodes, columns, n)
     }
@@ -156,9 +156,9 @@ impl Head {
         columns: &'a [ColumnStatistics<K>],
         n: usize,
     ) -> Result<NodeView<'a, K>, Refusal>
-        ensures value { shown result ≡ read_answer relation (sheet_of self.now nodes.now columns.now) n }
-        ensures least { Least (read_clear relation (sheet_of self.now nodes.now columns.now) n) (shown result) }
-        ensures keeps { KeepsForAll relation (sheet_of self.now nodes.now columns.now) (sheet_of self.now nodes.now columns.now) }
+        ensures value { shown result ≡ read_answer K.relation (sheet_of self.now nodes.now columns.now) n }
+        ensures least { Least (read_clear K.relation (sheet_of self.now nodes.now columns.now) n) (shown result) }
+        ensures keeps { KeepsForAll K.relation (sheet_of self.now nodes.now columns.now) (sheet_of self.now nodes.now columns.now) }
     {
         read_on(self, nodes, columns, n)
     }

@@ -62,7 +62,7 @@ pub(crate) fn limited_on<K: Key>(
     skip: u64,
     fetch: Option<u64>,
 ) -> Result<usize, Refusal>
-    ensures { stepped result (sheet_of head.new nodes.new columns.new) ≡ step relation no_figure (order (limit child skip fetch)) (sheet_of head.old nodes.old columns.old) }
+    ensures { stepped result (sheet_of head.new nodes.new columns.new) ≡ step K.relation no_figure (order (limit child skip fetch)) (sheet_of head.old nodes.old columns.old) }
 {
     let from = node_of(nodes, child);
     check_one(head, nodes, columns, child, true, true, from.width, 0)?;

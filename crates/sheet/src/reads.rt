@@ -40,7 +40,7 @@ fn check_read<K: Key>(
     columns: &[ColumnStatistics<K>],
     n: usize,
 ) -> Result<(), Refusal>
-    ensures { result ≡ checked (read_refusal relation (sheet_of head.now nodes.now columns.now) n) }
+    ensures { result ≡ checked (read_refusal K.relation (sheet_of head.now nodes.now columns.now) n) }
 {
     refuse_unless(head.count <= nodes.len(), Refusal::NodeMemory)?;
     refuse_unless(is_fit_child(head, nodes, columns, n), Refusal::Child)?;
@@ -54,7 +54,7 @@ pub(crate) fn read_on<'a, K: Key>(
     columns: &'a [ColumnStatistics<K>],
     n: usize,
 ) -> Result<NodeView<'a, K>, Refusal>
-    ensures { shown result ≡ read_answer relation (sheet_of head.now nodes.now columns.now) n }
+    ensures { shown result ≡ read_answer K.relation (sheet_of head.now nodes.now columns.now) n }
 {
     check_read(head, nodes, columns, n)?;
     let node = node_of(nodes, n);

@@ -42,7 +42,7 @@ fn are_all_fit<K: Key>(
     columns: &[ColumnStatistics<K>],
     children: &[usize],
 ) -> bool
-    ensures { result ≡ every (fit_child relation (sheet_of head.now nodes.now columns.now)) children.now }
+    ensures { result ≡ every (fit_child K.relation (sheet_of head.now nodes.now columns.now)) children.now }
 {
     for child in children {
         if !is_fit_child(head, nodes, columns, *child) {
@@ -127,7 +127,7 @@ fn check_union<K: Key>(
     columns: &[ColumnStatistics<K>],
     children: &[usize],
 ) -> Result<(), Refusal>
-    ensures { result ≡ checked (early_refusal relation (sheet_of head.now nodes.now columns.now) (union children.now)) }
+    ensures { result ≡ checked (early_refusal K.relation (sheet_of head.now nodes.now columns.now) (union children.now)) }
 {
     let width = union_width(nodes, children);
     let room = has_node_room(head, nodes);
@@ -163,7 +163,7 @@ pub(crate) fn united_on<K: Key>(
     columns: &mut [ColumnStatistics<K>],
     children: &[usize],
 ) -> Result<usize, Refusal>
-    ensures { stepped result (sheet_of head.new nodes.new columns.new) ≡ step relation no_figure (order (union children.now)) (sheet_of head.old nodes.old columns.old) }
+    ensures { stepped result (sheet_of head.new nodes.new columns.new) ≡ step K.relation no_figure (order (union children.now)) (sheet_of head.old nodes.old columns.old) }
 {
     check_union(head, nodes, columns, children)?;
     let width = union_width(nodes, children);

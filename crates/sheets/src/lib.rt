@@ -63,8 +63,8 @@ impl<K: Key, E: Estimator<K> + Copy, A: Allocator> Sheet<K, E, A> {
         bytes: Precision<u64>,
         laid: &[ColumnStatistics<K>],
     ) -> Result<usize, Refusal>
-        ensures outcome { Outcome relation (E.Estimator.figure self.old.estimator) (order (lay rows bytes laid.now)) (held self.old) result (held self.new) }
-        ensures keeps { Keeps relation (E.Estimator.figure self.old.estimator) (held self.old) (held self.new) }
+        ensures outcome { Outcome K.relation (E.Estimator.figure self.old.estimator) (order (lay rows bytes laid.now)) (held self.old) result (held self.new) }
+        ensures keeps { Keeps K.relation (E.Estimator.figure self.old.estimator) (held self.old) (held self.new) }
         ensures estimator { self.new.estimator ≡ self.old.estimator }
     {
         let nodes = self.nodes.as_mut_slice();
@@ -74,8 +74,8 @@ impl<K: Key, E: Estimator<K> + Copy, A: Allocator> Sheet<K, E, A> {
 
     /// Joins two nodes by keys. Types 0 to 7 ask the estimator.
     pub fn join(&mut self, join: &Join<'_>) -> Result<usize, Refusal>
-        ensures outcome { Outcome relation (E.Estimator.figure self.old.estimator) (order (join_of join.now)) (held self.old) result (held self.new) }
-        ensures keeps { Keeps relation (E.Estimator.figure self.old.estimator) (held self.old) (held self.new) }
+        ensures outcome { Outcome K.relation (E.Estimator.figure self.old.estimator) (order (join_of join.now)) (held self.old) result (held self.new) }
+        ensures keeps { Keeps K.relation (E.Estimator.figure self.old.estimator) (held self.old) (held self.new) }
         ensures estimator { self.new.estimator ≡ self.old.estimator }
     {
         let nodes = self.nodes.as_mut_slice();
@@ -85,8 +85,8 @@ impl<K: Key, E: Estimator<K> + Copy, A: Allocator> Sheet<K, E, A> {
 
     /// Puts every row of one node beside every row of another.
     pub fn cross_join(&mut self, left: usize, right: usize) -> Result<usize, Refusal>
-        ensures outcome { Outcome relation (E.Estimator.figure self.old.estimator) (order (cross left right)) (held self.old) result (held self.new) }
-        ensures keeps { Keeps relation (E.Estimator.figure self.old.estimator) (held self.old) (held self.new) }
+        ensures outcome { Outcome K.relation (E.Estimator.figure self.old.estimator) (order (cross left right)) (held self.old) result (held self.new) }
+        ensures keeps { Keeps K.relation (E.Estimator.figure self.old.estimator) (held self.old) (held self.new) }
         ensures estimator { self.new.estimator ≡ self.old.estimator }
     {
         let nodes = self.nodes.as_mut_slice();
@@ -96,8 +96,8 @@ impl<K: Key, E: Estimator<K> + Copy, A: Allocator> Sheet<K, E, A> {
 
     /// Skips rows of a node, and fetches at most so many of the others.
     pub fn limit(&mut self, child: usize, skip: u64, fetch: Option<u64>) -> Result<usize, Refusal>
-        ensures outcome { Outcome relation (E.Estimator.figure self.old.estimator) (order (limit child skip fetch)) (held self.old) result (held self.new) }
-        ensures keeps { Keeps relation (E.Estimator.figure self.old.estimator) (held self.old) (held self.new) }
+        ensures outcome { Outcome K.relation (E.Estimator.figure self.old.estimator) (order (limit child skip fetch)) (held self.old) result (held self.new) }
+        ensures keeps { Keeps K.relation (E.Estimator.figure self.old.estimator) (held self.old) (held self.new) }
         ensures estimator { self.new.estimator ≡ self.old.estimator }
     {
         let nodes = self.nodes.as_mut_slice();
@@ -107,8 +107,8 @@ impl<K: Key, E: Estimator<K> + Copy, A: Allocator> Sheet<K, E, A> {
 
     /// Puts the rows of 1 to 8 nodes one after the other.
     pub fn union(&mut self, children: &[usize]) -> Result<usize, Refusal>
-        ensures outcome { Outcome relation (E.Estimator.figure self.old.estimator) (order (union children.now)) (held self.old) result (held self.new) }
-        ensures keeps { Keeps relation (E.Estimator.figure self.old.estimator) (held self.old) (held self.new) }
+        ensures outcome { Outcome K.relation (E.Estimator.figure self.old.estimator) (order (union children.now)) (held self.old) result (held self.new) }
+        ensures keeps { Keeps K.relation (E.Estimator.figure self.old.estimator) (held self.old) (held self.new) }
         ensures estimator { self.new.estimator ≡ self.old.estimator }
     {
         let nodes = self.nodes.as_mut_slice();
@@ -118,8 +118,8 @@ impl<K: Key, E: Estimator<K> + Copy, A: Allocator> Sheet<K, E, A> {
 
     /// Groups a node's rows by keys.
     pub fn group(&mut self, grouping: &Grouping<'_>) -> Result<usize, Refusal>
-        ensures outcome { Outcome relation (E.Estimator.figure self.old.estimator) (order (group_of grouping.now)) (held self.old) result (held self.new) }
-        ensures keeps { Keeps relation (E.Estimator.figure self.old.estimator) (held self.old) (held self.new) }
+        ensures outcome { Outcome K.relation (E.Estimator.figure self.old.estimator) (order (group_of grouping.now)) (held self.old) result (held self.new) }
+        ensures keeps { Keeps K.relation (E.Estimator.figure self.old.estimator) (held self.old) (held self.new) }
         ensures estimator { self.new.estimator ≡ self.old.estimator }
     {
         let nodes = self.nodes.as_mut_slice();
@@ -129,8 +129,8 @@ impl<K: Key, E: Estimator<K> + Copy, A: Allocator> Sheet<K, E, A> {
 
     /// Keeps nodes 1 to `n`; node and column memory after them is used again.
     pub fn cut(&mut self, n: usize) -> Result<usize, Refusal>
-        ensures outcome { Outcome relation (E.Estimator.figure self.old.estimator) (cut n) (held self.old) result (held self.new) }
-        ensures keeps { Keeps relation (E.Estimator.figure self.old.estimator) (held self.old) (held self.new) }
+        ensures outcome { Outcome K.relation (E.Estimator.figure self.old.estimator) (cut n) (held self.old) result (held self.new) }
+        ensures keeps { Keeps K.relation (E.Estimator.figure self.old.estimator) (held self.old) (held self.new) }
         ensures estimator { self.new.estimator ≡ self.old.estimator }
     {
         let nodes = self.nodes.as_slice();
@@ -140,9 +140,9 @@ impl<K: Key, E: Estimator<K> + Copy, A: Allocator> Sheet<K, E, A> {
 
     /// What a node says of its table.
     pub fn read(&self, n: usize) -> Result<NodeView<'_, K>, Refusal>
-        ensures value { shown result ≡ read_answer relation (held self.now) n }
-        ensures least { Least (read_clear relation (held self.now) n) (shown result) }
-        ensures keeps { Keeps relation (E.Estimator.figure self.now.estimator) (held self.now) (held self.now) }
+        ensures value { shown result ≡ read_answer K.relation (held self.now) n }
+        ensures least { Least (read_clear K.relation (held self.now) n) (shown result) }
+        ensures keeps { Keeps K.relation (E.Estimator.figure self.now.estimator) (held self.now) (held self.now) }
     {
         let nodes = self.nodes.as_slice();
         let columns = self.columns.as_slice();

@@ -48,7 +48,7 @@ impl<K: Key> ColumnStatistics<K> {
     /// Whether the highest value, where both are present, is at or after the
     /// lowest.
     pub fn is_lawful(&self) -> bool
-        ensures { result ≡ lawful relation self.now }
+        ensures { result ≡ lawful K.relation self.now }
     {
         match (self.min_value.get_value(), self.max_value.get_value()) {
             (Some(low), Some(high)) => match high.compare(low) {
@@ -70,7 +70,7 @@ impl<K: Key> ColumnStatistics<K> {
 
     /// Whether the column is lawful and its counts are inside the limits.
     pub fn is_sound(&self) -> bool
-        ensures { result ≡ sound relation self.now }
+        ensures { result ≡ sound K.relation self.now }
     {
         self.is_lawful() && self.is_within_limits()
     }
@@ -79,7 +79,7 @@ impl<K: Key> ColumnStatistics<K> {
     /// at most the rows that are not null. Absent rows trim nothing.
     pub fn trim(self, rows: Precision<u64>) -> ColumnStatistics<K>
         ensures value { result ≡ trimmed rows self }
-        ensures trims { Trims relation rows self result }
+        ensures trims { Trims K.relation rows self result }
     {
         let Some(n) = rows.get_value() else {
             return self;
@@ -96,7 +96,7 @@ impl<K: Key> ColumnStatistics<K> {
 
 /// Whether every column is sound.
 pub fn all_sound<K: Key>(columns: &[ColumnStatistics<K>]) -> bool
-    ensures { result ≡ every (sound relation) columns.now }
+    ensures { result ≡ every (sound K.relation) columns.now }
 {
     for column in columns {
         if !column.is_sound() {

@@ -17,7 +17,7 @@ fn not_null_count(num_rows: Precision<u64>, null_count: Precision<u64>) -> Preci
 
 /// How many values lie between a column's ends, if that is known.
 fn range_count<K: Key>(stats: &ColumnStatistics<K>) -> Precision<u64>
-    ensures { result ≡ values_in_range size stats.now }
+    ensures { result ≡ values_in_range K.size stats.now }
 {
     match stats.min_value.zip(stats.max_value) {
         Precision::Exact((low, high)) => match K::range_size(low, high) {
@@ -50,8 +50,8 @@ pub fn max_distinct_count<K: Key>(
     num_rows: Precision<u64>,
     stats: &ColumnStatistics<K>,
 ) -> Precision<u64>
-    ensures value { result ≡ max_distinct size num_rows stats.now }
-    ensures laws { Distincts size num_rows stats.now result }
+    ensures value { result ≡ max_distinct K.size num_rows stats.now }
+    ensures laws { Distincts K.size num_rows stats.now result }
 {
     match (stats.distinct_count, num_rows.get_value()) {
         (Precision::Absent, _) => tighter_of(
