@@ -11,8 +11,8 @@ use Rattle.estimators.proofs.inner.widest_key.Goals as goal
 pub loop-pair-preserved : goal.loop-pair-preserved
 loop-pair-preserved g c =
     let q = c.args.question.now in
-    fold_turn (λ w k. max_present w (pair_width g.K.Key.size q.left.num_rows q.right.num_rows k)) Absent (columns_from Left (asked q)) q.on.now c.loop-pair.pair-index c.loop-pair-test.true c.loop-pair.most c.max-of-present-most.result c.key-columns-columns.result
-    (c.max-of-present-most.ensures ∙ ap (max_present c.loop-pair.most) c.max-of-pair-width.ensures) c.key-columns-columns.ensures c.loop-pair.invariant
+    fold_turn (λ w k. max_present w (pair_width g.K.Key.size q.left.num_rows q.right.num_rows k)) Absent (columns_from Left (asked q)) q.on.now c.loop-pair.pair-index c.loop-pair-test.true c.loop-pair.most c.max_of_present-most.result c.key_columns-columns.result
+    (c.max_of_present-most.ensures ∙ ap (max_present c.loop-pair.most) c.max_of_pair-width.ensures) c.key_columns-columns.ensures c.loop-pair.invariant
 
 pub returns : goal.returns
 returns g c =

@@ -12,11 +12,11 @@ use Rattle.estimators.proofs.products.divisor_of.Goals as goal
 pub loop-pair-preserved : goal.loop-pair-preserved
 loop-pair-preserved g c =
     let q = c.args.question.now in
-    let k = c.key-columns-columns.result in
-    let turn : c.product-with-so-far.result ≡ stopping_product c.loop-pair.so_far (larger_distinct (known k.this.distinct_count) (known k.other.distinct_count)) =
-    c.product-with-so-far.ensures ∙ ap (stopping_product c.loop-pair.so_far) (c.larger-of-count.ensures ∙ (λ i. larger_distinct (c.get-value.ensures i) (c.get-value-in-loop-pair.ensures i))) in (
-      fold_turn (λ p k. stopping_product p (larger_distinct (known k.this.distinct_count) (known k.other.distinct_count))) (Some 1) (columns_from Left (asked q)) q.on.now c.loop-pair.pair-index c.loop-pair-test.true c.loop-pair.so_far c.product-with-so-far.result k
-          turn c.key-columns-columns.ensures c.loop-pair.invariant.0,
+    let k = c.key_columns-columns.result in
+    let turn : c.product_with-so_far.result ≡ stopping_product c.loop-pair.so_far (larger_distinct (known k.this.distinct_count) (known k.other.distinct_count)) =
+    c.product_with-so_far.ensures ∙ ap (stopping_product c.loop-pair.so_far) (c.larger_of-count.ensures ∙ (λ i. larger_distinct (c.get_value.ensures i) (c.get_value-in-loop-pair.ensures i))) in (
+      fold_turn (λ p k. stopping_product p (larger_distinct (known k.this.distinct_count) (known k.other.distinct_count))) (Some 1) (columns_from Left (asked q)) q.on.now c.loop-pair.pair-index c.loop-pair-test.true c.loop-pair.so_far c.product_with-so_far.result k
+          turn c.key_columns-columns.ensures c.loop-pair.invariant.0,
       subst Positive (sym turn) (product_positive c.loop-pair.so_far _ c.loop-pair.invariant.1 (larger_positive (known k.this.distinct_count) (known k.other.distinct_count))),
     )
 

@@ -7,4 +7,4 @@ use Rattle.estimators.proofs.products.divisor_of.Given as goal
 
 abbrev pub invariant-loop-pair : goal.invariant-loop-pair
 invariant-loop-pair g l =
-    (l.so-far ≡ divisor (map (columns_from Left (asked l.question)) (take l.pair-index l.question.on.now))) × Positive l.so-far
+    (l.so_far ≡ divisor (map (columns_from Left (asked l.question)) (take l.pair-index l.question.on.now))) × Positive l.so_far

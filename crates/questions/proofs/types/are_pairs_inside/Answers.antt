@@ -5,15 +5,15 @@ use Rattle.stats.proofs.EveryMore.{every_passed, every_failed}
 use Rattle.questions.specs.Types.{pair_inside}
 use Rattle.questions.proofs.types.are_pairs_inside.Goals as goal
 
-pub returns-then-not-is-inside : goal.returns-then-not-is-inside
-returns-then-not-is-inside c =
+pub returns-then-not-is_inside : goal.returns-then-not-is_inside
+returns-then-not-is_inside c =
     let within = c.loop-pair-test.true in
-    sym (every_failed (pair_inside c.args.left c.args.right) _ _ _ within (get_or_default _ _ _ _ within) (sym c.if-not-is-inside.ensures)) ∙ c.loop-pair.invariant
+    sym (every_failed (pair_inside c.args.left c.args.right) _ _ _ within (get_or_default _ _ _ _ within) (sym c.if-not-is_inside.ensures)) ∙ c.loop-pair.invariant
 
 pub loop-pair-preserved : goal.loop-pair-preserved
 loop-pair-preserved c =
     let within = c.loop-pair-test.true in
-    every_passed (pair_inside c.args.left c.args.right) _ _ _ within (get_or_default _ _ _ _ within) (sym c.if-not-is-inside.ensures) ∙ c.loop-pair.invariant
+    every_passed (pair_inside c.args.left c.args.right) _ _ _ within (get_or_default _ _ _ _ within) (sym c.if-not-is_inside.ensures) ∙ c.loop-pair.invariant
 
 pub returns : goal.returns
 returns c =

@@ -10,6 +10,6 @@ returns g c =
     let estimate = g.E.Estimator.figure e in
     let call = order (join_of c.args.join.now) in
     record {
-      outcome = outcome g.K.Key.relation estimate call s _ _ c.joined-on.ensures;
-      keeps = keeps g.K.Key.relation estimate call s _ _ c.joined-on.ensures (g.met.E.Estimator.shares e) (g.met.E.Estimator.mirrors e);
+      outcome = outcome g.K.Key.relation estimate call s _ _ c.joined_on.ensures;
+      keeps = keeps g.K.Key.relation estimate call s _ _ c.joined_on.ensures (g.met.E.Estimator.shares e) (g.met.E.Estimator.mirrors e);
     }

@@ -8,7 +8,7 @@ pub returns : goal.returns
 returns g c =
     let s = sheet_of c.args.self.now c.args.nodes.now c.args.columns.now in
     record {
-      value = c.read-on.ensures;
-      least = read_least g.K.Key.relation no_figure s c.args.n _ c.read-on.ensures;
+      value = c.read_on.ensures;
+      least = read_least g.K.Key.relation no_figure s c.args.n _ c.read_on.ensures;
       keeps = λ estimate shares mirrors. record { reached = λ r. r; laws = laws_over_runs_lem g.K.Key.relation estimate shares mirrors s };
     }

@@ -8,6 +8,6 @@ returns g c =
     let s = sheet_of c.args.self.now c.args.nodes.now c.args.columns.now in
     let call = order (union c.args.children.now) in
     record {
-      outcome = λ estimate. outcome g.K.Key.relation estimate call s _ _ c.united-on.ensures;
-      keeps = λ estimate. keeps g.K.Key.relation estimate call s _ _ c.united-on.ensures;
+      outcome = λ estimate. outcome g.K.Key.relation estimate call s _ _ c.united_on.ensures;
+      keeps = λ estimate. keeps g.K.Key.relation estimate call s _ _ c.united_on.ensures;
     }

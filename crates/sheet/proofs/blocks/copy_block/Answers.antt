@@ -13,6 +13,6 @@ offset-bounds-columns-at g c =
 
 pub loop-i-preserved : goal.loop-i-preserved
 loop-i-preserved g c =
-    let read = rw c.loop-i.invariant at c.index-columns-from.is in
-    let m = copy_more (g.C.Change.changed c.args.change.now) c.args.columns.now c.args.from c.args.width c.args.at c.loop-i.i c.index-columns-from.result (omega arith) (omega arith) (omega arith) read in
+    let read = rw c.loop-i.invariant at c.index-columns_from.is in
+    let m = copy_more (g.C.Change.changed c.args.change.now) c.args.columns.now c.args.from c.args.width c.args.at c.loop-i.i c.index-columns_from.result (omega arith) (omega arith) (omega arith) read in
     cc

@@ -7,14 +7,14 @@ use Rattle.sheet.proofs.Sound.{accepted}
 use Rattle.sheet.proofs.Refused.{refused, passed}
 use Rattle.sheet.proofs.calls.laid_on.Goals as goal
 
-pub returns-in-err-check-lay : goal.returns-in-err-check-lay
-returns-in-err-check-lay g c =
+pub returns-in_err-check_lay : goal.returns-in_err-check_lay
+returns-in_err-check_lay g c =
     let p = err_from_is_err_and c.from-residual.result c.from-residual.ensures.1 in
-    refused _ _ _ _ _ (p.1 ∙ ap Err p.2) c.in-err-check-lay.ensures
+    refused _ _ _ _ _ (p.1 ∙ ap Err p.2) c.in_err-check_lay.ensures
 
-pub add-node-requires : goal.add-node-requires
-add-node-requires g c =
+pub add_node-requires : goal.add_node-requires
+add_node-requires g c =
     let s = sheet_of c.args.head.now c.args.nodes.now c.args.columns.now in
-    let a = accepted no_figure g.K.Key.relation s (lay c.args.rows c.args.bytes c.args.laid.now) (passed _ c.in-ok-check-lay.ensures) in
+    let a = accepted no_figure g.K.Key.relation s (lay c.args.rows c.args.bytes c.args.laid.now) (passed _ c.in_ok-check_lay.ensures) in
     let b : length c.args.columns.now < 2 ^ 64 = search rules in
     record { room = a.room; space = omega (arith, a.space, b) }

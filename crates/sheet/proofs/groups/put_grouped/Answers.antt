@@ -10,8 +10,8 @@ returns-in-Some g c =
     let columns = c.args.columns.now in
     let by = c.args.grouping.now.by.now in
     let extras = c.args.grouping.now.extras in
-    c.put-unknown.ensures ∙
-    ap (λ d. paste d (c.args.at + length by) (unknowns extras) extras) c.put-keys.ensures ∙
+    c.put_unknown.ensures ∙
+    ap (λ d. paste d (c.args.at + length by) (unknowns extras) extras) c.put_keys.ensures ∙
     groups_some c.args.rows c.args.groups extras by (block columns c.args.from.now) columns c.args.at _ c.in-Some.is (omega (arith, c.requires.space))
 
 pub returns-in-None : goal.returns-in-None
@@ -19,5 +19,5 @@ returns-in-None g c =
     let columns = c.args.columns.now in
     let by = c.args.grouping.now.by.now in
     let extras = c.args.grouping.now.extras in
-    c.put-unknown-in-None.ensures ∙
+    c.put_unknown-in-None.ensures ∙
     ap (λ cs. paste columns c.args.at cs (length by + extras)) (groups_none c.args.rows c.args.groups extras by (block columns c.args.from.now) c.in-None.is)

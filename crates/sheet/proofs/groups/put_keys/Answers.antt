@@ -22,6 +22,6 @@ loop-i-preserved g c =
     let from = c.args.from.now in
     let i = c.loop-i.i in
     let stays = ap (λ xs. block xs from) c.loop-i.invariant ∙ block_stays d _ c.args.at i from.place from.width c.requires.below (omega (arith, c.requires.space)) in
-    let is = c.trim.ensures.value ∙ ap (trimmed c.args.rows) (c.key-column-column.ensures ∙ ap (λ b. key_column b (get_or c.args.by.now i no_key)) stays) in
+    let is = c.trim.ensures.value ∙ ap (trimmed c.args.rows) (c.key_column-column.ensures ∙ ap (λ b. key_column b (get_or c.args.by.now i no_key)) stays) in
     ap (λ xs. set xs (c.args.at + i) c.trim.result) c.loop-i.invariant ∙
     put_each (λ k. trimmed c.args.rows (key_column (block d from) k)) d c.args.by.now c.args.at i no_key c.trim.result (omega (arith, c.requires.space)) (omega arith) is

@@ -10,6 +10,6 @@ pub returns-in-Some : goal.returns-in-Some
 returns-in-Some g c =
     let t = table_of c.args.columns.now c.args.from.now in
     record {
-      rows = λ anti rule keys. c.rows-in-rows.ensures ∙ part_rows anti rule keys c.args.figure t c.in-Some.old-rows c.in-Some.ensures;
-      bytes = λ anti rule keys. c.bytes-in.ensures ∙ ap (λ cs. inexact (fold (λ sum x. total sum (scaled x.byte_size c.in-Some.old-rows c.or_zero.result)) (Exact 0) cs)) c.block-of-block.ensures ∙ part_bytes anti rule keys c.args.figure t c.in-Some.old-rows c.or_zero.result c.rows-in-rows.result c.in-Some.ensures c.rows-in-rows.ensures c.or_zero.ensures;
+      rows = λ anti rule keys. c.rows_in-rows.ensures ∙ part_rows anti rule keys c.args.figure t c.in-Some.old_rows c.in-Some.ensures;
+      bytes = λ anti rule keys. c.bytes_in.ensures ∙ ap (λ cs. inexact (fold (λ sum x. total sum (scaled x.byte_size c.in-Some.old_rows c.or_zero.result)) (Exact 0) cs)) c.block_of-block.ensures ∙ part_bytes anti rule keys c.args.figure t c.in-Some.old_rows c.or_zero.result c.rows_in-rows.result c.in-Some.ensures c.rows_in-rows.ensures c.or_zero.ensures;
     }

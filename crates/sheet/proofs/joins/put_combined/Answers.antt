@@ -10,7 +10,7 @@ returns-in-Some g c =
     let columns = c.args.columns.now in
     let left = c.args.left.now in
     let right = c.args.right.now in
-    c.copy-two.ensures ∙
+    c.copy_two.ensures ∙
     ap (λ cs. paste columns c.args.at cs (left.width + right.width)) (combined_some c.args.rows c.args.figure (table_of columns left) (table_of columns right) _ c.in-Some.is)
 
 pub returns-in-None : goal.returns-in-None
@@ -20,5 +20,5 @@ returns-in-None g c =
     let right = c.args.right.now in
     let x = block_wide columns left (omega (arith, c.requires.left_below, c.requires.space)) in
     let y = block_wide columns right (omega (arith, c.requires.right_below, c.requires.space)) in
-    c.put-unknown.ensures ∙
+    c.put_unknown.ensures ∙
     ap (λ cs. paste columns c.args.at cs (left.width + right.width)) (combined_none c.args.rows c.args.figure (table_of columns left) (table_of columns right) c.in-None.is left.width right.width x y)

@@ -14,5 +14,5 @@ returns-in-Inner g c =
     let left = c.args.left.now in
     let right = c.args.right.now in
     let written = λ (t : JoinType). paste columns c.args.at (map (trimmed c.args.rows) (joined_by t join.null_equality join.on.now c.args.figure (table_of columns left) (table_of columns right)).columns) (join_width t left.width right.width) in
-    let put = c.put-combined.ensures in
+    let put = c.put_combined.ensures in
     ⊎_elim (λ e. put ∙ sym (ap written e)) (⊎_elim (λ e. put ∙ sym (ap written e)) (⊎_elim (λ e. put ∙ sym (ap written e)) (λ e. put ∙ sym (ap written e)))) c.in-Inner.is

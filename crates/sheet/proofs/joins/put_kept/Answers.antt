@@ -12,5 +12,5 @@ returns-in-None g c =
     let from = c.args.from.now in
     let join = c.args.join.now in
     let wide = block_wide columns from (omega (arith, c.requires.below, c.requires.space)) in
-    c.put-unknown.ensures ∙
+    c.put_unknown.ensures ∙
     ap (λ cs. paste columns c.args.at cs from.width) (part_hidden c.args.anti join.null_equality (key_columns c.args.side join.on.now) c.args.figure (table_of columns from) c.args.rows from.width c.in-None.ensures wide)

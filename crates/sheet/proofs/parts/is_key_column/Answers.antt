@@ -4,13 +4,13 @@ use Rattle.sheet.specs.Made.{among, key_columns}
 use Rattle.sheet.proofs.PartLoops.{key_found, key_passed}
 use Rattle.sheet.proofs.parts.is_key_column.Goals as goal
 
-pub returns-then-is-key : goal.returns-then-is-key
-returns-then-is-key c =
-    sym (key_found c.args.side c.args.index _ _ _ c.loop-pair-test.true (sym c.is-key.ensures ∙ c.if-is-key.true)) ∙ c.loop-pair.invariant
+pub returns-then-is_key : goal.returns-then-is_key
+returns-then-is_key c =
+    sym (key_found c.args.side c.args.index _ _ _ c.loop-pair-test.true (sym c.is_key.ensures ∙ c.if-is_key.true)) ∙ c.loop-pair.invariant
 
 pub loop-pair-preserved : goal.loop-pair-preserved
 loop-pair-preserved c =
-    key_passed c.args.side c.args.index _ _ _ c.loop-pair-test.true (sym c.is-key.ensures ∙ c.if-is-key.false) ∙ c.loop-pair.invariant
+    key_passed c.args.side c.args.index _ _ _ c.loop-pair-test.true (sym c.is_key.ensures ∙ c.if-is_key.false) ∙ c.loop-pair.invariant
 
 pub returns : goal.returns
 returns c =

@@ -15,8 +15,8 @@ offset-bounds-columns-at g c =
 
 pub loop-i-preserved : goal.loop-i-preserved
 loop-i-preserved g c =
-    let read = rw c.loop-i.invariant at c.index-columns-from.is in
+    let read = rw c.loop-i.invariant at c.index-columns_from.is in
     let part = c.args.part.now in
     let from = c.args.from.now in
-    let m = part_more part.anti part.null_equality (key_columns part.side part.on.now) part.old_rows part.new_rows c.args.rows c.args.columns.now from.place from.width c.args.at c.requires.below c.requires.space c.loop-i.i c.index-columns-from.result c.trim.result (omega arith) read (c.trim.ensures.value ∙ ap (trimmed c.args.rows) c.column-in.ensures) in
+    let m = part_more part.anti part.null_equality (key_columns part.side part.on.now) part.old_rows part.new_rows c.args.rows c.args.columns.now from.place from.width c.args.at c.requires.below c.requires.space c.loop-i.i c.index-columns_from.result c.trim.result (omega arith) read (c.trim.ensures.value ∙ ap (trimmed c.args.rows) c.column_in.ensures) in
     cc

@@ -6,17 +6,17 @@ use Rattle.sheet.specs.Sheets.{sheet_of}
 use Rattle.sheet.specs.Causes.{fit_child}
 use Rattle.sheet.proofs.unions.are_all_fit.Goals as goal
 
-pub returns-then-not-is-fit-child : goal.returns-then-not-is-fit-child
-returns-then-not-is-fit-child g c =
+pub returns-then-not-is_fit_child : goal.returns-then-not-is_fit_child
+returns-then-not-is_fit_child g c =
     let within = c.loop-child-test.true in
     let test = fit_child g.K.Key.relation (sheet_of c.args.head.now c.args.nodes.now c.args.columns.now) in
-    sym (every_failed test _ _ _ within (get_or_default _ _ _ _ within) (sym c.if-not-is-fit-child.ensures)) ∙ c.loop-child.invariant
+    sym (every_failed test _ _ _ within (get_or_default _ _ _ _ within) (sym c.if-not-is_fit_child.ensures)) ∙ c.loop-child.invariant
 
 pub loop-child-preserved : goal.loop-child-preserved
 loop-child-preserved g c =
     let within = c.loop-child-test.true in
     let test = fit_child g.K.Key.relation (sheet_of c.args.head.now c.args.nodes.now c.args.columns.now) in
-    every_passed test _ _ _ within (get_or_default _ _ _ _ within) (sym c.if-not-is-fit-child.ensures) ∙ c.loop-child.invariant
+    every_passed test _ _ _ within (get_or_default _ _ _ _ within) (sym c.if-not-is_fit_child.ensures) ∙ c.loop-child.invariant
 
 pub returns : goal.returns
 returns g c =

@@ -7,17 +7,17 @@ use Rattle.sheet.specs.declared.Node.{Node}
 use Rattle.sheet.specs.Sheets.{no_node}
 use Rattle.sheet.proofs.unions.are_all_wide.Goals as goal
 
-pub returns-then-node-of-width : goal.returns-then-node-of-width
-returns-then-node-of-width c =
+pub returns-then-node_of-width : goal.returns-then-node_of-width
+returns-then-node_of-width c =
     let within = c.loop-child-test.true in
     let test = λ (n : ℕ). eqb (get_or c.args.nodes.now (n - 1) no_node).width c.args.width in
-    sym (every_failed test _ _ _ within (get_or_default _ _ _ _ within) (sym (ap (λ (n : Node). eqb n.width c.args.width) c.node-of.ensures) ∙ ne_eqb c.node-of.result.width c.args.width c.if-node-of-width.true)) ∙ c.loop-child.invariant
+    sym (every_failed test _ _ _ within (get_or_default _ _ _ _ within) (sym (ap (λ (n : Node). eqb n.width c.args.width) c.node_of.ensures) ∙ ne_eqb c.node_of.result.width c.args.width c.if-node_of-width.true)) ∙ c.loop-child.invariant
 
 pub loop-child-preserved : goal.loop-child-preserved
 loop-child-preserved c =
     let within = c.loop-child-test.true in
     let test = λ (n : ℕ). eqb (get_or c.args.nodes.now (n - 1) no_node).width c.args.width in
-    every_passed test _ _ _ within (get_or_default _ _ _ _ within) (sym (ap (λ (n : Node). eqb n.width c.args.width) c.node-of.ensures) ∙ eq-eqb c.node-of.result.width c.args.width c.if-node-of-width.false) ∙ c.loop-child.invariant
+    every_passed test _ _ _ within (get_or_default _ _ _ _ within) (sym (ap (λ (n : Node). eqb n.width c.args.width) c.node_of.ensures) ∙ eq-eqb c.node_of.result.width c.args.width c.if-node_of-width.false) ∙ c.loop-child.invariant
 
 pub returns : goal.returns
 returns c =

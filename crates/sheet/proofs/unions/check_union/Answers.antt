@@ -12,8 +12,8 @@ returns g c =
     let children = c.args.children.now in
     let head = c.args.head.now in
     let columns = c.args.columns.now in
-    let wide = c.union-width-width.ensures in
-    let narrow = c.are-narrow-narrow.ensures ∙ ap (λ w. every (λ (n : ℕ). eqb (get_or nodes (n - 1) no_node).width w) children && leb w max_width) wide in
-    let memory = c.fits-union-memory.ensures ∙ ap (λ w. leb (head.used + w) (length columns) && every (λ (n : ℕ). leb ((get_or nodes (n - 1) no_node).place + (get_or nodes (n - 1) no_node).width) head.used) children) wide in
-    c.first-cause.ensures ∙
-    (λ i. checked (causes (c.has-node-room-room.ensures i) (c.are-all-fit-fit.ensures i) (c.is-child-count-counts.ensures i) true (narrow i) (memory i)))
+    let wide = c.union_width-width.ensures in
+    let narrow = c.are_narrow-narrow.ensures ∙ ap (λ w. every (λ (n : ℕ). eqb (get_or nodes (n - 1) no_node).width w) children && leb w max_width) wide in
+    let memory = c.fits_union-memory.ensures ∙ ap (λ w. leb (head.used + w) (length columns) && every (λ (n : ℕ). leb ((get_or nodes (n - 1) no_node).place + (get_or nodes (n - 1) no_node).width) head.used) children) wide in
+    c.first_cause.ensures ∙
+    (λ i. checked (causes (c.has_node_room-room.ensures i) (c.are_all_fit-fit.ensures i) (c.is_child_count-counts.ensures i) true (narrow i) (memory i)))

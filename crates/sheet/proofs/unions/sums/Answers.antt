@@ -11,8 +11,8 @@ pub loop-child-preserved : goal.loop-child-preserved
 loop-child-preserved c =
     let within = c.loop-child-test.true in
     let read = get_or_default _ _ _ _ within in (
-      fold_turn total (λ (n : ℕ). (get_or c.args.nodes.now (n - 1) no_node).rows) (Exact 0) c.args.children.now c.loop-child.child-index (get_or c.args.children.now c.loop-child.child-index 0) within read _ _ _ c.add-rows.ensures (ap (λ (n : Node). n.rows) c.node-of-node.ensures) c.loop-child.invariant.0,
-      fold_turn total (λ (n : ℕ). (get_or c.args.nodes.now (n - 1) no_node).bytes) (Exact 0) c.args.children.now c.loop-child.child-index (get_or c.args.children.now c.loop-child.child-index 0) within read _ _ _ c.add-bytes.ensures (ap (λ (n : Node). n.bytes) c.node-of-node.ensures) c.loop-child.invariant.1,
+      fold_turn total (λ (n : ℕ). (get_or c.args.nodes.now (n - 1) no_node).rows) (Exact 0) c.args.children.now c.loop-child.child-index (get_or c.args.children.now c.loop-child.child-index 0) within read _ _ _ c.add-rows.ensures (ap (λ (n : Node). n.rows) c.node_of-node.ensures) c.loop-child.invariant.0,
+      fold_turn total (λ (n : ℕ). (get_or c.args.nodes.now (n - 1) no_node).bytes) (Exact 0) c.args.children.now c.loop-child.child-index (get_or c.args.children.now c.loop-child.child-index 0) within read _ _ _ c.add-bytes.ensures (ap (λ (n : Node). n.bytes) c.node_of-node.ensures) c.loop-child.invariant.1,
     )
 
 pub returns : goal.returns

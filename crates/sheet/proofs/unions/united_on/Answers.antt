@@ -9,45 +9,45 @@ use Rattle.sheet.proofs.Carried.{early_refused, size_refused, carried_out}
 use Rattle.sheet.proofs.UnionCarried.{union_is, union_fits, union_writes}
 use Rattle.sheet.proofs.unions.united_on.Goals as goal
 
-pub returns-in-err-check-union : goal.returns-in-err-check-union
-returns-in-err-check-union g c =
+pub returns-in_err-check_union : goal.returns-in_err-check_union
+returns-in_err-check_union g c =
     let s = sheet_of c.args.head.now c.args.nodes.now c.args.columns.now in
     let cs = c.args.children.now in
     let p = err_from_is_err_and c.from-residual.result c.from-residual.ensures.1 in
-    early_refused s (op.Union (kept_as 0 cs)) (united (map (table_at s) cs)) _ c.from-residual.result _ (p.1 ∙ ap Err p.2) c.in-err-check-union.ensures
+    early_refused s (op.Union (kept_as 0 cs)) (united (map (table_at s) cs)) _ c.from-residual.result _ (p.1 ∙ ap Err p.2) c.in_err-check_union.ensures
 
-pub union-node-node-requires : goal.union-node-node-requires
-union-node-node-requires g c =
+pub union_node-node-requires : goal.union_node-node-requires
+union_node-node-requires g c =
     let s = sheet_of c.args.head.now c.args.nodes.now c.args.columns.now in
-    record { few = (union_fits g.K.Key.relation s c.args.children.now c.in-ok-check-union.ensures _ c.union-width-width.ensures).few }
+    record { few = (union_fits g.K.Key.relation s c.args.children.now c.in_ok-check_union.ensures _ c.union_width-width.ensures).few }
 
-pub returns-in-err-check-size : goal.returns-in-err-check-size
-returns-in-err-check-size g c =
+pub returns-in_err-check_size : goal.returns-in_err-check_size
+returns-in_err-check_size g c =
     let s = sheet_of c.args.head.now c.args.nodes.now c.args.columns.now in
     let cs = c.args.children.now in
-    let p = err_from_is_err_and c.from-residual-in-err-check-size.result c.from-residual-in-err-check-size.ensures.1 in
-    let node = c.union-node-node.ensures ∙ union_is g.K.Key.relation s cs (op.Union (kept_as 0 cs)) _ in
-    size_refused s _ (united (map (table_at s) cs)) _ _ _ node c.in-ok-check-union.ensures _ _ (p.1 ∙ ap Err p.2) c.in-err-check-size.ensures
+    let p = err_from_is_err_and c.from-residual-in_err-check_size.result c.from-residual-in_err-check_size.ensures.1 in
+    let node = c.union_node-node.ensures ∙ union_is g.K.Key.relation s cs (op.Union (kept_as 0 cs)) _ in
+    size_refused s _ (united (map (table_at s) cs)) _ _ _ node c.in_ok-check_union.ensures _ _ (p.1 ∙ ap Err p.2) c.in_err-check_size.ensures
 
-pub put-unknown-requires : goal.put-unknown-requires
-put-unknown-requires g c =
+pub put_unknown-requires : goal.put_unknown-requires
+put_unknown-requires g c =
     let s = sheet_of c.args.head.now c.args.nodes.now c.args.columns.now in
-    (union_fits g.K.Key.relation s c.args.children.now c.in-ok-check-union.ensures _ c.union-width-width.ensures).space
+    (union_fits g.K.Key.relation s c.args.children.now c.in_ok-check_union.ensures _ c.union_width-width.ensures).space
 
-pub add-node-requires : goal.add-node-requires
-add-node-requires g c =
+pub add_node-requires : goal.add_node-requires
+add_node-requires g c =
     let s = sheet_of c.args.head.now c.args.nodes.now c.args.columns.now in
-    let fits = union_fits g.K.Key.relation s c.args.children.now c.in-ok-check-union.ensures _ c.union-width-width.ensures in
+    let fits = union_fits g.K.Key.relation s c.args.children.now c.in_ok-check_union.ensures _ c.union_width-width.ensures in
     let b : length c.args.columns.now < 2 ^ 64 = search rules in
-    record { room = fits.room; space = omega (arith, fits.space, ap (λ (n : Node). n.width) c.union-node-node.ensures, b) }
+    record { room = fits.room; space = omega (arith, fits.space, ap (λ (n : Node). n.width) c.union_node-node.ensures, b) }
 
 pub returns : goal.returns
 returns g c =
     let s = sheet_of c.args.head.now c.args.nodes.now c.args.columns.now in
     let cs = c.args.children.now in
-    let early = c.in-ok-check-union.ensures in
-    let fits = union_fits g.K.Key.relation s cs early _ c.union-width-width.ensures in
-    let node = c.union-node-node.ensures ∙ union_is g.K.Key.relation s cs (op.Union (kept_as 0 cs)) _ in
-    carried_out s _ (united (map (table_at s) cs)) _ _ _ node early _ _ _ _ c.in-ok-check-size.ensures fits.wide
-    c.add-node.ensures.number c.add-node.ensures.counts c.add-node.ensures.adds
-    (c.put-unknown.ensures ∙ union_writes g.K.Key.relation s cs _ fits.wide)
+    let early = c.in_ok-check_union.ensures in
+    let fits = union_fits g.K.Key.relation s cs early _ c.union_width-width.ensures in
+    let node = c.union_node-node.ensures ∙ union_is g.K.Key.relation s cs (op.Union (kept_as 0 cs)) _ in
+    carried_out s _ (united (map (table_at s) cs)) _ _ _ node early _ _ _ _ c.in_ok-check_size.ensures fits.wide
+    c.add_node.ensures.number c.add_node.ensures.counts c.add_node.ensures.adds
+    (c.put_unknown.ensures ∙ union_writes g.K.Key.relation s cs _ fits.wide)

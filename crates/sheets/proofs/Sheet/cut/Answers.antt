@@ -7,8 +7,8 @@ pub returns : goal.returns
 returns g c =
     let s = c.args.self.now in
     let estimate = g.E.Estimator.figure s.estimator in
-    let nodes = c.as-slice-nodes.ensures.value in
-    let columns = c.as-slice-columns.ensures.value in
+    let nodes = c.as_slice-nodes.ensures.value in
+    let columns = c.as_slice-columns.ensures.value in
     record {
       outcome = outcome_of_head s _ _ nodes columns g.K.Key.relation estimate _ (cut c.args.n) _ (c.cut.ensures.outcome estimate);
       keeps = keeps_of_head s _ _ nodes columns g.K.Key.relation estimate _ (c.cut.ensures.keeps estimate (g.met.E.Estimator.shares s.estimator) (g.met.E.Estimator.mirrors s.estimator));

@@ -9,8 +9,8 @@ returns g c =
     let s = c.args.self.now in
     let relation = g.K.Key.relation in
     let estimate = g.E.Estimator.figure s.estimator in
-    let nodes = c.as-slice-nodes.ensures.value in
-    let columns = c.as-slice-columns.ensures.value in
+    let nodes = c.as_slice-nodes.ensures.value in
+    let columns = c.as_slice-columns.ensures.value in
     let same = before s _ _ nodes columns in
     record {
       value = c.read.ensures.value ∙ ap (λ t. read_answer relation t c.args.n) same;
