@@ -1,5 +1,5 @@
 -- A divisor of distinct counts is never 0. Assumes nothing.
-use Rattle.std.proofs.Common.{◌≡◌, ℕ, ◌*◌, ◌^◌, ◌<◌, cond, eqb, Some, None, Option, mul-pos, arith}
+use Rattle.std.proofs.Common.{ℕ, ◌*◌, ◌<◌, Some, None, Option, mul-pos, arith}
 use Rattle.std.proofs.lemmas.Bool.Decides.{nat_tests}
 use Rattle.estimators.specs.Product.{larger_distinct, stopping_product, Positive}
 

@@ -1,5 +1,5 @@
 -- The figures of our estimators stay in bounds. Assumes nothing.
-use Rattle.std.proofs.Common.{◌≡◌, ℕ, ◌+◌, ◌≤◌, max, Bool, true, false, cond, Some, None, Option, sym, refl, ap, ◌∙◌, arith}
+use Rattle.std.proofs.Common.{◌≡◌, ℕ, ◌+◌, ◌≤◌, max, Bool, true, false, cond, Some, None, Option, sym, arith}
 use Rattle.keys.specs.declared.Relation.{Relation}
 use Rattle.keys.specs.NoValue.{no_value}
 use Rattle.stats.specs.declared.exactness.Precision.{Precision}

@@ -1,8 +1,8 @@
 -- Disjointness does not mind which side is which, where columns are lawful: then
 -- only one of two ranges can lie after the other. Assumes nothing.
-use Rattle.std.specs.Prelude.{◌≡◌, ℕ, Bool, true, false, cond, ◌&&◌, List, [], ◌∷◌, map, is_some, Some, None, Option, ◌≢◌, refl}
-use Rattle.std.proofs.Common.{sym, ap, ◌∙◌, arith}
-use Rattle.std.proofs.lemmas.Bool.{and_parts, both_ways}
+use Rattle.std.specs.Prelude.{◌≡◌, ℕ, Bool, true, false, cond, List, [], ◌∷◌, map, is_some, Some, Option, ◌≢◌, refl}
+use Rattle.std.proofs.Common.{sym, ap, ◌∙◌}
+use Rattle.std.proofs.lemmas.Bool.{both_ways}
 use Rattle.keys.specs.declared.Relation.{Relation}
 use Rattle.keys.specs.declared.Relation.TheVariants.{Before, Equal, After, Unrelated}
 use Rattle.keys.specs.Relations.{turned, AtOrBefore}
@@ -18,8 +18,8 @@ use Rattle.questions.specs.declared.types.NullEquality.{NullEquality}
 use Rattle.questions.specs.declared.types.NullEquality.TheVariants.{NullEqualsNothing, NullEqualsNull}
 use Rattle.estimators.specs.declared.pairs.KeyColumns.{KeyColumns}
 use Rattle.estimators.specs.KeyColumns.{turned as Seen-turned}
-use Rattle.estimators.specs.Zeros.{zero_of, either_zero, or_else}
-use Rattle.estimators.specs.Disjoint.{is_after, when_after, low_past_high, ranges_apart, no_null_match, disjoint_pair, disjoint}
+use Rattle.estimators.specs.Zeros.{zero_of, or_else}
+use Rattle.estimators.specs.Disjoint.{is_after, when_after, low_past_high, no_null_match, disjoint_pair, disjoint}
 use Rattle.estimators.specs.Swaps.{either_swap, or_else_swap}
 
 -- both values of an operation are known where its result is

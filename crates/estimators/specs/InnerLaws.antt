@@ -1,12 +1,11 @@
 -- The rows of an inner join do not mind which side is which. Assumes nothing.
-use Rattle.std.specs.Prelude.{◌≡◌, ℕ, zero, suc, ◌*◌, ◌/◌, max, Bool, true, false, ◌&&◌, List, [], ◌∷◌, map, length, get_or, fold, Option, nat_le, slice_index_or, refl}
-use Rattle.std.proofs.Common.{sym, ap, ◌∙◌, mul_comm, arith}
+use Rattle.std.specs.Prelude.{◌≡◌, ℕ, zero, suc, ◌*◌, ◌/◌, max, Bool, true, ◌&&◌, List, [], ◌∷◌, map, length, get_or, fold, Option, nat_le, slice_index_or, refl}
+use Rattle.std.proofs.Common.{ap, ◌∙◌, mul_comm, arith}
 use Rattle.std.proofs.lemmas.Bool.{and_parts}
 use Rattle.keys.specs.declared.Relation.{Relation}
 use Rattle.keys.specs.Laws.{Lawful}
 use Rattle.stats.specs.declared.exactness.Precision.{Precision}
 use Rattle.stats.specs.declared.exactness.Precision.TheVariants.{Absent}
-use Rattle.stats.specs.declared.columns.ColumnStatistics.{ColumnStatistics}
 use Rattle.stats.specs.Precisions.{inexact, both, at_most}
 use Rattle.stats.specs.Limits.{max_count}
 use Rattle.stats.specs.Columns.{unknown_column, lawful, within_limits, sound}
@@ -15,14 +14,13 @@ use Rattle.stats.specs.Every.{every}
 use Rattle.questions.specs.declared.types.JoinSide.TheVariants.{Left, Right}
 use Rattle.questions.specs.declared.types.KeySide.{KeySide}
 use Rattle.questions.specs.declared.types.KeySide.TheVariants.{Column, Expression}
-use Rattle.questions.specs.declared.types.KeyPair.{KeyPair}
 use Rattle.questions.specs.Questions.{Input, Question, mirrored}
 use Rattle.estimators.specs.declared.pairs.KeyColumns.{KeyColumns}
 use Rattle.estimators.specs.KeyColumns.{turned, columns_at, columns_from, keys_from}
 use Rattle.questions.specs.Types.{max_pairs}
 use Rattle.questions.specs.Types.{pair_inside}
 use Rattle.estimators.specs.Answerable.{input_sound, answerable}
-use Rattle.estimators.specs.Zeros.{zero_of, either_zero, or_else}
+use Rattle.estimators.specs.Zeros.{zero_of, or_else}
 use Rattle.estimators.specs.Disjoint.{disjoint}
 use Rattle.estimators.specs.Widest.{max_present, pair_width, widest, nonzero, matching, inner_rows}
 use Rattle.estimators.specs.Swaps.{both_swap, either_swap}

@@ -1,7 +1,7 @@
 -- A mirrored question has the same keys, seen from the other side, and is
 -- answerable where the question is. Assumes nothing.
-use Rattle.std.specs.Prelude.{◌≡◌, ℕ, Bool, true, false, ◌&&◌, List, [], ◌∷◌, map, length, fold, nat_le, refl}
-use Rattle.std.proofs.Common.{sym, ap, ◌∙◌}
+use Rattle.std.specs.Prelude.{◌≡◌, ℕ, Bool, ◌&&◌, List, [], ◌∷◌, map, length, nat_le, refl}
+use Rattle.std.proofs.Common.{ap}
 use Rattle.std.proofs.lemmas.List.{length-map}
 use Rattle.keys.specs.declared.Relation.{Relation}
 use Rattle.stats.specs.declared.columns.ColumnStatistics.{ColumnStatistics}
@@ -13,7 +13,6 @@ use Rattle.questions.specs.declared.types.KeySide.TheVariants.{Column, Expressio
 use Rattle.questions.specs.declared.types.KeyPair.{KeyPair}
 use Rattle.questions.specs.Types.{opposite, exchanged, max_pairs}
 use Rattle.questions.specs.Questions.{Question, mirrored}
-use Rattle.estimators.specs.declared.pairs.KeyColumns.{KeyColumns}
 use Rattle.estimators.specs.KeyColumns.{turned, columns_at, columns_from, keys_from}
 use Rattle.questions.specs.Types.{key_inside, pair_inside}
 use Rattle.estimators.specs.Answerable.{input_sound, answerable}

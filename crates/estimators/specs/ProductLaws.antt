@@ -1,14 +1,13 @@
 -- Product keeps the two laws. Assumes nothing.
-use Rattle.std.specs.Prelude.{◌≡◌, ℕ, ◌+◌, ◌-◌, ◌*◌, ◌/◌, min, max, Bool, true, cond, eqb, List, [], ◌∷◌, map, Some, None, fold, Option, refl}
-use Rattle.std.proofs.Common.{sym, ap, ◌∙◌, add_comm, mul_comm, arith}
+use Rattle.std.specs.Prelude.{◌≡◌, ℕ, ◌-◌, ◌/◌, max, List, [], ◌∷◌, map, Some, None, fold, Option, refl}
+use Rattle.std.proofs.Common.{ap, ◌∙◌, add_comm, mul_comm, arith}
 use Rattle.std.proofs.lemmas.Bool.Decides.{nat_tests}
 use Rattle.keys.specs.declared.Relation.{Relation}
 use Rattle.stats.specs.declared.exactness.Precision.{Precision}
 use Rattle.stats.specs.Precisions.{known}
 use Rattle.questions.specs.declared.types.JoinType.{JoinType}
 use Rattle.questions.specs.declared.types.JoinType.TheVariants as join
-use Rattle.questions.specs.declared.types.JoinSide.TheVariants.{Left, Right}
-use Rattle.questions.specs.declared.figures.Figure.{Figure}
+use Rattle.questions.specs.declared.types.JoinSide.TheVariants.{Left}
 use Rattle.questions.specs.declared.figures.Figure.TheVariants.{Inexact}
 use Rattle.questions.specs.Types.{mirror}
 use Rattle.questions.specs.Questions.{Question, mirrored}

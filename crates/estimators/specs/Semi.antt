@@ -1,6 +1,6 @@
 -- Rows of a semi join: the kept rows times the part that each key pair lets
 -- through, in binary64, each operation rounded once. Assumes nothing.
-use Rattle.std.specs.Prelude.{ℕ, min, Bool, true, false, cond, ◌&&◌, ◌||◌, List, is_some, Some, None, fold, Option, ◌==◌, nat_le, Float}
+use Rattle.std.specs.Prelude.{ℕ, min, Bool, cond, ◌&&◌, ◌||◌, List, is_some, Some, None, fold, Option, ◌==◌, nat_le, Float}
 use Rattle.std.specs.Float.Ieee.{mul, div, sub, to_unsigned}
 use Rattle.std.specs.Float.{ceil, float_one, float_zero, binary64}
 use Rattle.std.specs.Option.{option_map}

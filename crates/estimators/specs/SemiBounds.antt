@@ -1,12 +1,11 @@
 -- A semi join never has more rows than its kept side: every factor lies between
 -- 0 and 1, and rounding is monotone. Assumes nothing.
 use Rattle.std.specs.Prelude.{◌≡◌, ℕ, ◌^◌, ◌<◌, ◌≤◌, min, Bool, true, false, cond, ◌&&◌, ◌||◌, List, [], ◌∷◌, is_some, Some, None, fold, Option, ◌==◌, nat_le, refl, Float}
-use Rattle.std.proofs.Common.{sym, ap, subst, ◌∙◌, ⊎_elim, arith, lit≤}
+use Rattle.std.proofs.Common.{arith, lit≤}
 use Rattle.std.specs.Float.Ieee.{mul, div, sub}
 use Rattle.std.specs.Float.{float_one, float_zero, binary64}
 use Rattle.std.specs.Option.{option_map}
-use Rattle.std.proofs.lemmas.Bool.Decides.{nat_tests}
-use Rattle.std.proofs.lemmas.Bool.{cases_Bool, leb-true, eqb-false, both_ways, or_cases}
+use Rattle.std.proofs.lemmas.Bool.{leb-true, eqb-false, both_ways}
 use Rattle.keys.specs.declared.Relation.{Relation}
 use Rattle.keys.specs.NoValue.{no_value}
 use Rattle.floats.specs.Counts.{float}
@@ -14,9 +13,8 @@ use Rattle.floats.proofs.Fractions.{float_value}
 use Rattle.floats.proofs.Upto.{Upto, mul_upto, div_upto, rest_upto, one_upto, zero_upto, times_upto, ceil_upto}
 use Rattle.stats.specs.declared.exactness.Precision.{Precision}
 use Rattle.stats.specs.declared.exactness.Precision.TheVariants.{Exact, Inexact, Absent}
-use Rattle.stats.specs.declared.columns.ColumnStatistics.{ColumnStatistics}
 use Rattle.stats.specs.Precisions.{known, AtMost}
-use Rattle.stats.specs.Distincts.{max_distinct, Distincts}
+use Rattle.stats.specs.Distincts.{max_distinct}
 use Rattle.stats.proofs.DistinctLaws.{distincts}
 use Rattle.questions.specs.declared.types.NullEquality.{NullEquality}
 use Rattle.questions.specs.declared.types.NullEquality.TheVariants.{NullEqualsNothing, NullEqualsNull}

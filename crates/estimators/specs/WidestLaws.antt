@@ -1,5 +1,5 @@
 -- Widest keeps the two laws. Assumes nothing.
-use Rattle.std.specs.Prelude.{◌≡◌, ℕ, ◌+◌, ◌-◌, ◌^◌, ◌≤◌, max, Bool, true, false, cond, Some, None, Option, refl}
+use Rattle.std.specs.Prelude.{◌≡◌, ℕ, ◌-◌, ◌^◌, max, Bool, true, false, cond, Some, None, Option, refl}
 use Rattle.std.proofs.Common.{sym, ap, subst, ◌∙◌, arith}
 use Rattle.std.specs.Option.{option_map}
 use Rattle.std.proofs.lemmas.Bool.{leb-true}
@@ -18,13 +18,13 @@ use Rattle.questions.specs.declared.figures.Figure.{Figure}
 use Rattle.questions.specs.declared.figures.Figure.TheVariants as figure
 use Rattle.questions.specs.Types.{mirror, opposite}
 use Rattle.questions.specs.Figures.{figure_of}
-use Rattle.questions.specs.Questions.{Input, Question, mirrored, of_type, this_input, other_input}
+use Rattle.questions.specs.Questions.{Question, mirrored, this_input, other_input}
 use Rattle.questions.specs.Laws.{AddUp, Shares, Mirrors}
-use Rattle.estimators.specs.Answerable.{input_sound, answerable}
+use Rattle.estimators.specs.Answerable.{answerable}
 use Rattle.estimators.specs.KeyColumns.{keys_from}
 use Rattle.estimators.specs.Widest.{inner_rows}
 use Rattle.estimators.specs.Semi.{semi_of, semi_rows}
-use Rattle.estimators.specs.WidestFigures.{at_least, full_figure, semi_figure, anti_figure, widest_by, widest_figure}
+use Rattle.estimators.specs.WidestFigures.{semi_figure, anti_figure, widest_by, widest_figure}
 use Rattle.estimators.specs.Swaps.{total_swap}
 use Rattle.estimators.specs.MirroredKeys.{keys_mirrored, answerable_mirrored}
 use Rattle.estimators.specs.InnerLaws.{Sound, sound_of, rows_few, inner_mirrored}

@@ -1,6 +1,6 @@
 -- Floats that are not negative, held against fractions: what rounding, a
 -- product and a quotient keep. Assumes nothing.
-use Rattle.std.proofs.Common.{◌≡◌, ℕ, zero, suc, ◌+◌, ◌*◌, ◌^◌, ◌<◌, ◌≤◌, Bool, true, false, cond, ◌&&◌, ◌||◌, T, eqb, ltb, ◌⊎◌, pos, sym, refl, ap, ◌∙◌, subst, inl, inr, true≢false, le_of_eq, le_of_lt, lt_irrefl, mul_assoc, mul_comm, mul-pos, zero-mul, mul_left_comm, arith, eqb→eq, ltb→lt}
+use Rattle.std.proofs.Common.{◌≡◌, ℕ, zero, suc, ◌+◌, ◌*◌, ◌^◌, ◌<◌, ◌≤◌, Bool, true, false, cond, ◌&&◌, ◌||◌, T, eqb, ltb, ◌⊎◌, sym, refl, ap, ◌∙◌, subst, inl, inr, true≢false, le_of_eq, le_of_lt, lt_irrefl, mul_assoc, mul_comm, mul-pos, zero-mul, mul_left_comm, arith, eqb→eq, ltb→lt}
 use Prim.Native.Nat.compare
 use Prim.Native.Nat.{Ordering}
 use native.Mathlib.Nat.{mul-mul-mul_comm}

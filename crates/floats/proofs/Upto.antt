@@ -1,7 +1,7 @@
 -- Floats that are not negative and at most a whole number: what a product, a
 -- quotient and a difference from 1 keep, since rounding is monotone. Assumes
 -- nothing.
-use Rattle.std.proofs.Common.{◌≡◌, ℕ, suc, ◌+◌, ◌-◌, ◌*◌, ◌/◌, ◌^◌, ◌<◌, ◌≤◌, Bool, true, false, cond, T, ltb, ℤ, pos, sym, refl, ap, ◌∙◌, subst, true≢false, le_trans, le_of_eq, le_of_suc-le-suc, lt_of_le_of_lt, suc-mul, div-lt_iff_lt-mul, mul-le-mul, mul-pos, one-mul, mul-one, not-le_of_lt, arith, lit<, lit≤, le→leb, ltb→lt, pow_pos}
+use Rattle.std.proofs.Common.{◌≡◌, ℕ, ◌-◌, ◌*◌, ◌^◌, ◌<◌, ◌≤◌, Bool, true, false, cond, T, ltb, ℤ, pos, sym, refl, ap, ◌∙◌, subst, true≢false, le_trans, le_of_eq, le_of_suc-le-suc, lt_of_le_of_lt, suc-mul, div-lt_iff_lt-mul, mul-le-mul, mul-pos, one-mul, mul-one, not-le_of_lt, arith, lit<, lit≤, le→leb, ltb→lt, pow_pos}
 use native.Mathlib.Nat.{mul-mul-mul_comm}
 use lib.Ieee.{Float, nan, inf, fin, Format, binary64, prec, up, down, of_int, in_float, to_unsigned, round, sum, mul, div, sub}
 use lib.Ieee.Fits.{down_pos}

@@ -1,8 +1,8 @@
 -- What follows from the laws of an order. Assumes nothing.
-use Rattle.std.proofs.Common.{◌≡◌, ℕ, Option, sym, refl, ap, ◌∙◌, subst, arith}
+use Rattle.std.proofs.Common.{◌≡◌, ℕ, Option, sym, refl, ap, ◌∙◌, arith}
 use Rattle.keys.specs.declared.Relation.{Relation}
 use Rattle.keys.specs.declared.Relation.TheVariants.{Before, Equal, After, Unrelated}
-use Rattle.keys.specs.Relations.{turned, AtOrBefore}
+use Rattle.keys.specs.Relations.{AtOrBefore}
 use Rattle.keys.specs.Laws.{Lawful}
 
 module _ {K : Type 0} {relation : K → K → Relation} {size : K → K → Option ℕ} (laws : Lawful relation size) where

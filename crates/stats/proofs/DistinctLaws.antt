@@ -1,11 +1,10 @@
 -- The laws of the most distinct values. Assumes nothing.
-use Rattle.std.proofs.Common.{◌≡◌, ℕ, ◌-◌, ◌≤◌, true, cond, leb, is_some, Some, None, Option, refl, arith}
+use Rattle.std.proofs.Common.{◌≡◌, ℕ, true, is_some, Some, Option, arith}
 use Rattle.std.proofs.lemmas.Bool.Decides.{nat_tests}
 use Rattle.stats.specs.declared.exactness.Precision.{Precision}
-use Rattle.stats.specs.declared.exactness.Precision.TheVariants.{Exact, Inexact, Absent}
 use Rattle.stats.specs.declared.columns.ColumnStatistics.{ColumnStatistics}
-use Rattle.stats.specs.Precisions.{known, both, capped, AtMost}
-use Rattle.stats.specs.Distincts.{under_rows, not_null, values_in_range, tighter, distinct_by, max_distinct, Distincts}
+use Rattle.stats.specs.Precisions.{known, AtMost}
+use Rattle.stats.specs.Distincts.{not_null, values_in_range, tighter, distinct_by, max_distinct, Distincts}
 
 -- by rows, nulls, distincts and the range's size, whatever they are
 module _ (rows nulls d range : Precision ℕ) where

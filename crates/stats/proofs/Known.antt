@@ -1,5 +1,5 @@
 -- What is known of a Precision by its value. Assumes nothing.
-use Rattle.std.proofs.Common.{◌≡◌, ℕ, ◌≤◌, ◌⊎◌, Some, refl, inl, inr, arith}
+use Rattle.std.proofs.Common.{◌≡◌, ℕ, ◌≤◌, ◌⊎◌, Some, inl, inr, arith}
 use Rattle.keys.specs.NoValue.{no_value}
 use Rattle.stats.specs.declared.exactness.Precision.{Precision}
 use Rattle.stats.specs.declared.exactness.Precision.TheVariants.{Exact, Inexact, Absent}

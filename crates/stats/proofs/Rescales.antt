@@ -1,13 +1,12 @@
 -- The laws of rescaled bytes with their exactness. Assumes nothing.
-use Rattle.std.proofs.Common.{◌≡◌, ℕ, ◌^◌, ◌<◌, ◌≤◌, cond, eqb, Some, sym, refl, ap, ◌∙◌, inl, inr, ⊎_elim, arith}
+use Rattle.std.proofs.Common.{◌≡◌, ℕ, ◌<◌, ◌≤◌, Some, ap, ◌∙◌, inl, inr, ⊎_elim, arith}
 use Rattle.std.proofs.lemmas.Bool.Decides.{nat_tests}
 use Rattle.std.proofs.lemmas.Bool.{cases_eq, eq-eqb}
 use Rattle.stats.specs.declared.exactness.Precision.{Precision}
-use Rattle.stats.specs.declared.exactness.Precision.TheVariants.{Exact, Inexact, Absent}
 use Rattle.stats.specs.Precisions.{known, paired, AtMost}
 use Rattle.floats.specs.Counts.{rescaled}
 use Rattle.floats.proofs.Rescaling.{rescaled_fewer, rescaled_same}
-use Rattle.stats.specs.Bytes.{rescaled_by, rescaled_bytes, Usual, Rescales}
+use Rattle.stats.specs.Bytes.{rescaled_bytes, Usual, Rescales}
 use Rattle.stats.proofs.Known.{Holds, holds, paired_holds, known_at_most}
 
 module _ (bytes old new : Precision ℕ) (b o n : ℕ) (u : Usual bytes old new b o n) where

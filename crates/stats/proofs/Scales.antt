@@ -1,13 +1,13 @@
 -- Scaling rounds a fraction up, and a part of the rows has no more than all.
 -- Assumes nothing.
-use Rattle.std.proofs.Common.{◌≡◌, ℕ, ◌+◌, ◌*◌, ◌/◌, ◌%◌, ◌^◌, ◌<◌, ◌≤◌, min, cond, eqb, ltb, Some, sym, refl, ap, ◌∙◌, ⊎_elim, mul-le-mul_right, mod-lt, add-mul, mul-le-mul_left, one-mul, div-add-mod', mul-one, arith}
+use Rattle.std.proofs.Common.{◌≡◌, ℕ, ◌+◌, ◌*◌, ◌/◌, ◌%◌, ◌^◌, ◌<◌, ◌≤◌, min, Some, refl, ap, ◌∙◌, ⊎_elim, mul-le-mul_right, mod-lt, add-mul, mul-le-mul_left, one-mul, div-add-mod', mul-one, arith}
 use Rattle.std.proofs.lemmas.Bool.Decides.{nat_tests}
-use Rattle.std.proofs.lemmas.Bool.{cases_lt, cases_eq}
+use Rattle.std.proofs.lemmas.Bool.{cases_lt}
 use Rattle.keys.specs.NoValue.{no_value}
 use Rattle.stats.specs.declared.exactness.Precision.{Precision}
 use Rattle.stats.specs.declared.exactness.Precision.TheVariants.{Exact, Inexact, Absent}
 use Rattle.stats.specs.Precisions.{known, AtMost}
-use Rattle.stats.specs.Scaling.{ceiling, estimate, part_of, scaled, Scales}
+use Rattle.stats.specs.Scaling.{ceiling, part_of, scaled, Scales}
 
 module _ (a b : ℕ) (B : 0 < b) where
   whole : a / b * b + a % b ≡ a

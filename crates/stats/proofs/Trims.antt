@@ -1,5 +1,5 @@
 -- What trim keeps. Assumes nothing.
-use Rattle.std.proofs.Common.{◌≡◌, ℕ, ◌+◌, ◌-◌, ◌≤◌, Bool, true, false, cond, ◌&&◌, leb, sym, refl, ap, ◌∙◌, arith}
+use Rattle.std.proofs.Common.{◌≡◌, ℕ, ◌+◌, ◌-◌, ◌≤◌, true, refl, ap, ◌∙◌, arith}
 use Rattle.std.proofs.lemmas.Bool.Decides.{nat_tests}
 use Rattle.std.proofs.lemmas.Bool.{and_parts, and_from}
 use Rattle.keys.specs.declared.Relation.{Relation}
@@ -7,8 +7,8 @@ use Rattle.stats.specs.declared.exactness.Precision.{Precision}
 use Rattle.stats.specs.declared.exactness.Precision.TheVariants.{Exact, Inexact, Absent}
 use Rattle.stats.specs.declared.columns.ColumnStatistics.{ColumnStatistics}
 use Rattle.stats.specs.Precisions.{capped, or_zero, at_most}
-use Rattle.stats.specs.Limits.{max_count, max_column_bytes}
-use Rattle.stats.specs.Columns.{lawful, within_limits}
+use Rattle.stats.specs.Limits.{max_count}
+use Rattle.stats.specs.Columns.{within_limits}
 use Rattle.stats.specs.Trim.{trimmed_to, trimmed, Ceiling, Trims}
 
 pub capped_le : (n : ℕ) (p : Precision ℕ) → or_zero (capped n p) ≤ n

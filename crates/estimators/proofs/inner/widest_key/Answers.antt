@@ -1,4 +1,4 @@
-use Rattle.std.proofs.Common.{◌≡◌, map, sym, ap, ◌∙◌}
+use Rattle.std.proofs.Common.{map, ap, ◌∙◌}
 use Rattle.std.proofs.lemmas.List.{take_all}
 use Rattle.stats.specs.declared.exactness.Precision.TheVariants.{Absent}
 use Rattle.questions.specs.declared.types.JoinSide.TheVariants.{Left}

@@ -1,4 +1,4 @@
-use Rattle.std.proofs.Common.{◌≡◌, map, None, sym, ap, ◌∙◌}
+use Rattle.std.proofs.Common.{map, None, ap, ◌∙◌}
 use Rattle.std.proofs.lemmas.List.{take_all}
 use Rattle.questions.specs.Questions.{asked}
 use Rattle.estimators.specs.KeyColumns.{columns_from}

@@ -1,5 +1,5 @@
-use Rattle.std.proofs.Common.{◌≡◌, sym, subst, rules}
-use Rattle.stats.specs.Trim.{trimmed, Trims}
+use Rattle.std.proofs.Common.{◌≡◌, rules}
+use Rattle.stats.specs.Trim.{trimmed}
 use Rattle.stats.proofs.Trims.{trims}
 use Rattle.stats.proofs.columns.ColumnStatistics.trim.Goals as goal
 
