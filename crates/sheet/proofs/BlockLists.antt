@@ -1,12 +1,8 @@
 -- A new block after the others leaves them as they were. Assumes nothing.
-use Rattle.std.proofs.Common.{◌≡◌, ℕ, ◌+◌, ◌≤◌, List, [], ◌∷◌, map, length, get_or, take, drop, replicate, sym, ap, ◌∙◌, arith, rules}
+use Rattle.std.proofs.Common.{◌≡◌, ℕ, ◌+◌, ◌≤◌, List, [], ◌∷◌, map, length, take, drop, replicate, arith, rules}
 use lib.Seq.{paste}
 use Rattle.std.specs.List.{AllByRecursion as All}
 use Rattle.std.proofs.lemmas.List.{places, same_lists}
-use Rattle.stats.specs.declared.exactness.Precision.{Precision}
-use Rattle.stats.specs.declared.columns.ColumnStatistics.{ColumnStatistics}
-use Rattle.keys.specs.declared.Relation.{Relation}
-use Rattle.sheet.specs.declared.shorts.Short.{Short}
 use Rattle.sheet.specs.Shorts.{listed, kept_as}
 
 -- a block below the new one stays

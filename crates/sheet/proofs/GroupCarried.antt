@@ -1,5 +1,5 @@
 -- A grouping, from its child's node. Assumes nothing.
-use Rattle.std.proofs.Common.{◌≡◌, ℕ, ◌+◌, ◌≤◌, Bool, leb, List, ◌++◌, map, length, Some, None, Ok, Option, sym, refl, ap, ◌∙◌}
+use Rattle.std.proofs.Common.{◌≡◌, ℕ, ◌+◌, ◌≤◌, leb, List, ◌++◌, map, length, Some, None, Ok, Option, sym, ap, ◌∙◌}
 use lib.ListN.{length-map, length-replicate}
 use lib.Seq.{paste}
 use Rattle.std.proofs.lemmas.List.{map-append}

@@ -1,6 +1,6 @@
 -- A join, from its children's nodes and the figure that was asked for. Assumes
 -- nothing.
-use Rattle.std.proofs.Common.{◌≡◌, ℕ, ◌+◌, Bool, leb, List, map, length, Some, None, Ok, Option, sym, refl, ap, ◌∙◌}
+use Rattle.std.proofs.Common.{◌≡◌, ℕ, leb, List, map, length, Some, None, Ok, Option, sym, refl, ap, ◌∙◌}
 use lib.Seq.{paste}
 use Rattle.keys.specs.declared.Relation.{Relation}
 use Rattle.stats.specs.Precisions.{known}

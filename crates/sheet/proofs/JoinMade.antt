@@ -11,7 +11,7 @@ use Rattle.stats.specs.Columns.{unknown_column, column_inexact}
 use Rattle.stats.specs.Trim.{trimmed}
 use Rattle.questions.specs.declared.figures.Figure.{Figure}
 use Rattle.sheet.specs.Sheets.{Table}
-use Rattle.sheet.specs.Made.{Made, unknowns, combined, marked_by, marked}
+use Rattle.sheet.specs.Made.{unknowns, combined, marked_by, marked}
 use Rattle.sheet.proofs.LawsHold.{map_map}
 use Rattle.sheet.proofs.Unknowns.{unknown_trimmed, unknowns_trimmed}
 

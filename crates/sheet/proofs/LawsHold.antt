@@ -1,8 +1,7 @@
 -- The laws hold of every sheet that calls reach. Assumes nothing.
-use Rattle.std.proofs.Common.{◌≡◌, ℕ, ◌+◌, ◌-◌, ◌<◌, ◌≤◌, Bool, true, false, List, [], ◌∷◌, ◌++◌, map, length, take, drop, replicate, Some, None, Option, sym, refl, ap, ◌∙◌, subst, arith}
+use Rattle.std.proofs.Common.{◌≡◌, ℕ, ◌+◌, ◌-◌, ◌<◌, Bool, true, false, List, [], ◌∷◌, ◌++◌, map, length, take, drop, Some, None, Option, sym, refl, ap, ◌∙◌, subst, arith}
 use lib.ListN.{length-map}
 use Rattle.std.proofs.lemmas.List.{take_at, drop_at, map-append}
-use Rattle.std.specs.List.{AllByRecursion as All}
 use Rattle.keys.specs.declared.Relation.{Relation}
 use Rattle.keys.specs.NoValue.{no_value}
 use Rattle.stats.specs.declared.exactness.Precision.{Precision}
@@ -26,12 +25,11 @@ use Rattle.questions.specs.Figures.{rows_of, amount}
 use Rattle.questions.specs.Questions.{Question}
 use Rattle.questions.specs.Laws.{AddUp, Shares, Mirrors}
 use Rattle.sheet.specs.declared.Node.{Node}
-use Rattle.sheet.specs.Shorts.{listed}
-use Rattle.sheet.specs.Sheets.{Sheet, Table, Standing, node_at, block, table_at}
-use Rattle.sheet.specs.Made.{Made, unknowns, join_question, combined, key_of, key_columns, part_by, part, marked, joined_by, joined}
-use Rattle.sheet.specs.Laws.{Reached, Joins, AsksEstimator, kept_child, RowsAddUp, ShareBy, Share, seen_mirrored, SameTable, Before, Laws, LawsOverRuns}
+use Rattle.sheet.specs.Sheets.{Sheet, Table, Standing, node_at, table_at}
+use Rattle.sheet.specs.Made.{Made, unknowns, join_question, combined, key_of, key_columns, part_by, part, joined_by, joined}
+use Rattle.sheet.specs.Laws.{Joins, AsksEstimator, kept_child, RowsAddUp, ShareBy, Share, seen_mirrored, SameTable, Before, Laws, LawsOverRuns}
 use Rattle.sheet.proofs.Widths.{block_length}
-use Rattle.sheet.proofs.Sound.{nth, end, Holds, JoinHolds, Sound, reached_sound}
+use Rattle.sheet.proofs.Sound.{Holds, JoinHolds, Sound, reached_sound}
 
 -- ---- a join holds the figure that it asked for
 combined_figure : {K : Type 0} (f : Option Figure) (l r : Table K) → (combined f l r).figure ≡ f

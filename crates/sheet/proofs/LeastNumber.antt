@@ -1,7 +1,7 @@
 -- The chain of causes gives the least number. Assumes nothing.
-use Rattle.std.proofs.Common.{◌≡◌, ℕ, zero, suc, ◌+◌, ◌≤◌, Bool, true, false, cond, not, ◌&&◌, eqb, leb, ◌⊎◌, Some, None, Ok, Err, Option, Result, sym, refl, ap, ◌∙◌, subst, inl, inr, ⊎_elim, arith}
+use Rattle.std.proofs.Common.{◌≡◌, ℕ, zero, suc, ◌+◌, ◌≤◌, Bool, true, false, cond, not, ◌⊎◌, Some, None, Ok, Err, Option, Result, sym, refl, ap, ◌∙◌, subst, inl, inr, ⊎_elim, arith}
 use Rattle.std.specs.Option.{option_map, option_or}
-use Rattle.std.proofs.lemmas.Bool.{eq-eqb, eqb-true, eqb-false, cases_eq}
+use Rattle.std.proofs.lemmas.Bool.{eq-eqb, cases_eq}
 use Rattle.keys.specs.declared.Relation.{Relation}
 use Rattle.keys.specs.NoValue.{no_value}
 use Rattle.questions.specs.declared.figures.Figure.{Figure}
@@ -11,7 +11,7 @@ use Rattle.sheet.specs.declared.refusals.Refusal.TheVariants.{NodeMemory, Child,
 use Rattle.sheet.specs.RefusalNumbers.{refusal_number}
 use Rattle.sheet.specs.Sheets.{Sheet}
 use Rattle.sheet.specs.Calls.{Order, Call, order, cut}
-use Rattle.sheet.specs.Causes.{unless, early_refusal, sizes, laid_unsound, order_refusal, cut_refusal}
+use Rattle.sheet.specs.Causes.{unless, early_refusal, laid_unsound, order_refusal, cut_refusal}
 use Rattle.sheet.specs.Steps.{answered, settled, step}
 use Rattle.sheet.specs.Reads.{Reading, reading_at, read_refusal, read_answer}
 use Rattle.sheet.specs.Least.{other_than, order_clear, cut_clear, read_clear, clear, Least}

@@ -1,5 +1,5 @@
 -- A limit, from its child's node. Assumes nothing.
-use Rattle.std.proofs.Common.{◌≡◌, ℕ, ◌+◌, true, List, map, length, take, drop, None, Ok, Err, Option, Result, sym, refl, ap, ◌∙◌, arith}
+use Rattle.std.proofs.Common.{◌≡◌, ℕ, ◌+◌, true, map, length, take, drop, None, Option, sym, ap, ◌∙◌, arith}
 use lib.ListN.{length-map}
 use lib.Seq.{paste}
 use Rattle.keys.specs.declared.Relation.{Relation}
@@ -7,7 +7,6 @@ use Rattle.stats.specs.Bytes.{rescaled_bytes}
 use Rattle.stats.specs.Columns.{column_inexact}
 use Rattle.stats.specs.Trim.{trimmed}
 use Rattle.sheet.specs.declared.Node.{Node}
-use Rattle.sheet.specs.declared.refusals.Refusal.{Refusal}
 use Rattle.sheet.specs.declared.operators.Operator.TheVariants as op
 use Rattle.sheet.specs.Sheets.{Sheet, node_at, block, table_at}
 use Rattle.sheet.specs.Made.{Made, limit_rows, limited}

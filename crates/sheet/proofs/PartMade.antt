@@ -1,14 +1,13 @@
 -- What a semi or an anti join makes, from the kept node. Assumes nothing.
-use Rattle.std.proofs.Common.{◌≡◌, ℕ, Bool, List, map, length, Some, None, fold, Option, sym, refl, ap, ◌∙◌}
+use Rattle.std.proofs.Common.{◌≡◌, ℕ, Bool, List, map, length, Some, None, fold, Option, sym, ap, ◌∙◌}
 use Rattle.stats.specs.declared.exactness.Precision.{Precision}
-use Rattle.stats.specs.declared.exactness.Precision.TheVariants.{Exact, Absent}
-use Rattle.stats.specs.declared.columns.ColumnStatistics.{ColumnStatistics}
+use Rattle.stats.specs.declared.exactness.Precision.TheVariants.{Exact}
 use Rattle.stats.specs.Precisions.{inexact, known, total, or_zero}
 use Rattle.stats.specs.Scaling.{scaled}
 use Rattle.questions.specs.declared.types.NullEquality.{NullEquality}
 use Rattle.questions.specs.declared.figures.Figure.{Figure}
 use Rattle.sheet.specs.Sheets.{Table}
-use Rattle.sheet.specs.Made.{Made, unknowns, columns_kept, rows_kept, part_by, part}
+use Rattle.sheet.specs.Made.{Made, unknowns, rows_kept, part_by, part}
 use Rattle.stats.specs.Trim.{trimmed}
 use Rattle.sheet.proofs.PartLoops.{bytes_kept}
 use Rattle.sheet.proofs.Unknowns.{unknowns_trimmed}

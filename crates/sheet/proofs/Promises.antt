@@ -1,5 +1,5 @@
 -- A call that is its step keeps what every call promises. Assumes nothing.
-use Rattle.std.proofs.Common.{◌≡◌, ℕ, Option, Result, sym, ap, ◌∙◌, subst}
+use Rattle.std.proofs.Common.{◌≡◌, ℕ, Option, Result, sym, ap, subst}
 use Rattle.keys.specs.declared.Relation.{Relation}
 use Rattle.questions.specs.declared.figures.Figure.{Figure}
 use Rattle.questions.specs.Questions.{Question}
@@ -8,7 +8,7 @@ use Rattle.sheet.specs.declared.refusals.Refusal.{Refusal}
 use Rattle.sheet.specs.Sheets.{Sheet}
 use Rattle.sheet.specs.Calls.{Call}
 use Rattle.sheet.specs.Steps.{Step, stepped, step}
-use Rattle.sheet.specs.Laws.{Reached, next, Laws}
+use Rattle.sheet.specs.Laws.{Reached, next}
 use Rattle.sheet.specs.Outcomes.{Outcome, Keeps}
 use Rattle.sheet.proofs.LawsHold.{laws_over_runs_lem}
 use Rattle.sheet.proofs.LeastNumber.{step_least}

@@ -1,21 +1,17 @@
 -- What every run from a blank sheet keeps: blocks lie one after the other inside
 -- the used part, and each join is what it makes of its children as they stand.
 -- Assumes nothing.
-use Rattle.std.proofs.Common.{◌≡◌, ℕ, suc, ◌+◌, ◌-◌, ◌<◌, ◌≤◌, Bool, true, false, cond, not, ◌&&◌, ◌||◌, eqb, ltb, leb, ◌≢◌, ◌⊎◌, List, [], ◌∷◌, map, length, get_or, take, drop, set, Some, None, Option, sym, refl, ap, ◌∙◌, subst, inl, inr, ⊎_elim, arith, below_more}
+use Rattle.std.proofs.Common.{◌≡◌, ℕ, ◌+◌, ◌-◌, ◌<◌, ◌≤◌, Bool, true, false, not, ◌&&◌, leb, ◌≢◌, List, [], ◌∷◌, map, length, get_or, Some, None, Option, sym, refl, ap, ◌∙◌, subst, ⊎_elim, arith, below_more}
 use lib.ListN.{length-map}
-use lib.Seq.{paste}
 use Rattle.std.specs.List.{AllByRecursion as All}
 use Rattle.std.specs.Option.{option_or}
 use Rattle.std.proofs.lemmas.List.{length-set, get_or-set_same, get_or-set_other}
 use Rattle.std.proofs.lemmas.List.Edits.{length-paste}
-use Rattle.std.proofs.lemmas.Bool.{and_parts, leb-true, leb-false, ltb-false, not-true, cases_Bool, cases_eq}
+use Rattle.std.proofs.lemmas.Bool.{and_parts, leb-true, cases_eq}
 use Rattle.std.proofs.lemmas.Bool.Decides.{nat_tests}
 use Rattle.keys.specs.declared.Relation.{Relation}
 use Rattle.keys.specs.NoValue.{no_value}
-use Rattle.stats.specs.declared.exactness.Precision.{Precision}
 use Rattle.stats.specs.declared.columns.ColumnStatistics.{ColumnStatistics}
-use Rattle.stats.specs.Precisions.{at_most}
-use Rattle.stats.specs.Limits.{max_count, max_node_bytes}
 use Rattle.stats.specs.Every.{every}
 use Rattle.stats.specs.Trim.{trimmed, Ceiling}
 use Rattle.stats.proofs.Trims.{trim_ceiling}
@@ -24,7 +20,6 @@ use Rattle.questions.specs.declared.types.NullEquality.{NullEquality}
 use Rattle.questions.specs.declared.types.KeyPair.{KeyPair}
 use Rattle.questions.specs.declared.figures.Figure.{Figure}
 use Rattle.questions.specs.Questions.{Question}
-use Rattle.sheet.specs.declared.Head.{Head}
 use Rattle.sheet.specs.declared.Node.{Node}
 use Rattle.sheet.specs.declared.shorts.Short.{Short}
 use Rattle.sheet.specs.declared.operators.Operator.{Operator}
@@ -32,12 +27,12 @@ use Rattle.sheet.specs.declared.operators.Operator.TheVariants as op
 use Rattle.sheet.specs.declared.refusals.Refusal.{Refusal}
 use Rattle.sheet.specs.declared.refusals.Refusal.TheVariants as refusal
 use Rattle.sheet.specs.Shorts.{listed, kept_as, no_key, no_pair}
-use Rattle.sheet.specs.Sheets.{Sheet, no_node, node_at, block, Table, table_of, table_at}
+use Rattle.sheet.specs.Sheets.{Sheet, no_node, node_at, block, table_of, table_at}
 use Rattle.sheet.specs.Calls.{Order, lay, join, cross, limit, union, group, Call, order, cut, children, operator_of}
 use Rattle.sheet.specs.Made.{Made, joined}
-use Rattle.sheet.specs.Causes.{no_node_memory, short_nodes, short_columns, block_inside, stands, in_limits, columns_sound, fit_child, count_fits, keys_inside, width_of, width_fits, columns_fit, made, laid_unsound, unless, early_refusal, order_refusal, cut_inside, cut_refusal}
-use Rattle.sheet.specs.Steps.{Step, with_node, cut_to, settled, step}
-use Rattle.sheet.specs.Laws.{Blank, Reached, start, next}
+use Rattle.sheet.specs.Causes.{no_node_memory, short_nodes, block_inside, stands, in_limits, columns_sound, fit_child, count_fits, keys_inside, width_of, width_fits, columns_fit, made, unless, early_refusal, order_refusal, cut_refusal}
+use Rattle.sheet.specs.Steps.{with_node, cut_to, settled, step}
+use Rattle.sheet.specs.Laws.{Reached, start, next}
 use Rattle.sheet.proofs.BlockLists.{block_stays, block_new, listed_kept, all_made}
 use Rattle.sheet.proofs.Widths.{made_fits, made_wide}
 

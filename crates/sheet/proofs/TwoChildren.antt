@@ -1,5 +1,5 @@
 -- Two children, from their nodes. Assumes nothing.
-use Rattle.std.proofs.Common.{◌≡◌, ℕ, ◌+◌, Bool, List, ◌++◌, map, length, sym, refl, ap, ◌∙◌, length-append}
+use Rattle.std.proofs.Common.{◌≡◌, ℕ, ◌+◌, Bool, ◌++◌, length, sym, ap, ◌∙◌, length-append}
 use Rattle.keys.specs.declared.Relation.{Relation}
 use Rattle.sheet.specs.declared.Node.{Node}
 use Rattle.sheet.specs.Sheets.{Sheet, node_at, block, table_at}

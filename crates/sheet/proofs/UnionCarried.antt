@@ -1,5 +1,5 @@
 -- A union, from its children. Assumes nothing.
-use Rattle.std.proofs.Common.{◌≡◌, ℕ, ◌+◌, ◌-◌, ◌<◌, ◌≤◌, Bool, true, not, ◌&&◌, eqb, leb, List, [], ◌∷◌, map, length, get_or, None, Ok, fold, sym, refl, ap, ◌∙◌, arith}
+use Rattle.std.proofs.Common.{◌≡◌, ℕ, ◌+◌, ◌-◌, ◌<◌, ◌≤◌, true, not, ◌&&◌, eqb, leb, List, [], ◌∷◌, map, length, get_or, None, Ok, fold, sym, refl, ap, ◌∙◌, arith}
 use lib.ListN.{length-replicate}
 use lib.Seq.{paste}
 use Rattle.std.proofs.lemmas.Bool.{and_parts, leb-true}
@@ -12,7 +12,7 @@ use Rattle.stats.specs.Columns.{unknown_column}
 use Rattle.stats.specs.Every.{every}
 use Rattle.stats.specs.Trim.{trimmed}
 use Rattle.sheet.specs.declared.operators.Operator.{Operator}
-use Rattle.sheet.specs.Sheets.{Sheet, Table, node_at, block, table_at, no_node}
+use Rattle.sheet.specs.Sheets.{Sheet, Table, node_at, table_at, no_node}
 use Rattle.sheet.specs.Calls.{union}
 use Rattle.sheet.specs.Made.{Made, unknowns, first_width, united}
 use Rattle.sheet.specs.Causes.{no_node_memory, fit_child, block_inside, max_width, max_children, union_width, columns_fit, early_refusal}

@@ -1,5 +1,5 @@
 -- What an order makes has the width that was asked for. Assumes nothing.
-use Rattle.std.proofs.Common.{◌≡◌, ℕ, suc, ◌+◌, ◌≤◌, Bool, true, false, ◌&&◌, leb, List, [], ◌∷◌, ◌++◌, map, length, take, drop, replicate, Some, None, Option, sym, refl, ap, ◌∙◌, add_comm, arith, length-append, length-drop, length-take}
+use Rattle.std.proofs.Common.{◌≡◌, ℕ, suc, ◌+◌, ◌≤◌, Bool, true, false, leb, List, [], ◌∷◌, ◌++◌, map, length, Some, None, Option, refl, ap, ◌∙◌, arith, length-append, length-drop, length-take}
 use lib.ListN.{length-map, length-replicate}
 use Rattle.std.proofs.lemmas.Bool.{and_parts, leb-true}
 use Rattle.stats.specs.declared.columns.ColumnStatistics.{ColumnStatistics}
@@ -17,8 +17,8 @@ use Rattle.questions.specs.Questions.{Question}
 use Rattle.sheet.specs.declared.Node.{Node}
 use Rattle.sheet.specs.Sheets.{Sheet, Table, node_at, block, table_at}
 use Rattle.sheet.specs.Calls.{Order, lay, join, cross, limit, union, group, children}
-use Rattle.sheet.specs.Made.{Made, unknowns, combined, columns_kept, part_by, part, key_columns, marked_by, marked, joined_by, joined, first_width, key_column, group_count, grouped_by}
-use Rattle.sheet.specs.Causes.{block_inside, join_width, union_width, width_of, columns_fit, made}
+use Rattle.sheet.specs.Made.{unknowns, combined, columns_kept, part_by, part, key_columns, marked_by, joined_by, key_column, group_count, grouped_by}
+use Rattle.sheet.specs.Causes.{block_inside, join_width, width_of, columns_fit, made}
 
 -- ---- the parts
 unknowns_length : (K : Type 0) (n : ℕ) → length (unknowns {K = K} n) ≡ n

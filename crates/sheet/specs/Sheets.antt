@@ -1,5 +1,5 @@
 -- A sheet and its nodes, as values. Assumes nothing.
-use Rattle.std.specs.Prelude.{ℕ, ◌+◌, ◌-◌, ◌≤◌, List, length, take, drop, None, slice_index_or}
+use Rattle.std.specs.Prelude.{ℕ, ◌-◌, ◌≤◌, List, take, drop, None, slice_index_or}
 use Rattle.stats.specs.declared.exactness.Precision.{Precision}
 use Rattle.stats.specs.declared.exactness.Precision.TheVariants.{Exact}
 use Rattle.stats.specs.declared.columns.ColumnStatistics.{ColumnStatistics}

@@ -1,5 +1,5 @@
 -- Short lists, as a node keeps them. Assumes nothing.
-use Rattle.std.specs.Prelude.{ℕ, List, length, take, replicate}
+use Rattle.std.specs.Prelude.{List, length, take, replicate}
 use Rattle.std.proofs.Math.Seq.{paste}
 use Rattle.questions.specs.declared.types.KeySide.{KeySide}
 use Rattle.questions.specs.declared.types.KeySide.TheVariants.{Column}

@@ -1,6 +1,6 @@
 -- What a call does: it is refused and leaves the sheet, or adds a node, or cuts.
 -- Assumes nothing.
-use Rattle.std.specs.Prelude.{ℕ, ◌+◌, cond, List, map, length, Some, None, Ok, Err, Option, Result, ◌==◌, slice_set}
+use Rattle.std.specs.Prelude.{ℕ, ◌+◌, cond, map, length, Some, None, Ok, Err, Option, Result, ◌==◌, slice_set}
 use Rattle.std.proofs.Math.Seq.{paste}
 use Rattle.std.specs.Option.{option_or}
 use Rattle.keys.specs.declared.Relation.{Relation}
@@ -12,7 +12,7 @@ use Rattle.sheet.specs.declared.Node.{Node}
 use Rattle.sheet.specs.declared.operators.Operator.{Operator}
 use Rattle.sheet.specs.declared.refusals.Refusal.{Refusal}
 use Rattle.sheet.specs.Sheets.{Sheet, node_at}
-use Rattle.sheet.specs.Calls.{Order, Call, order, cut, operator_of}
+use Rattle.sheet.specs.Calls.{Call, order, cut, operator_of}
 use Rattle.sheet.specs.Made.{Made}
 use Rattle.sheet.specs.Causes.{made, size_refusal, order_refusal, cut_refusal}
 

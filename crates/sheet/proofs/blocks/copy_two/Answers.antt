@@ -1,4 +1,4 @@
-use Rattle.std.proofs.Common.{◌≡◌, ◌+◌, map, take, drop, ap, ◌∙◌}
+use Rattle.std.proofs.Common.{◌+◌, map, take, drop, ap, ◌∙◌}
 use lib.Seq.{paste}
 use Rattle.sheet.proofs.Writes.{copy_both}
 use Rattle.sheet.proofs.blocks.copy_two.Goals as goal

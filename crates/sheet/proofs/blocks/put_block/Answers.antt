@@ -1,4 +1,4 @@
-use Rattle.std.proofs.Common.{◌≡◌, ◌+◌, set, ap, ◌∙◌, arith, rules}
+use Rattle.std.proofs.Common.{◌+◌, set, ◌∙◌, arith, rules}
 use Rattle.std.proofs.lemmas.List.Edits.{paste_none}
 use Rattle.stats.specs.Trim.{trimmed}
 use Rattle.sheet.proofs.Writes.{put_more}

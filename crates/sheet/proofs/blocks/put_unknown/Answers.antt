@@ -1,4 +1,4 @@
-use Rattle.std.proofs.Common.{◌≡◌, ◌+◌, set, ap, ◌∙◌, arith, rules}
+use Rattle.std.proofs.Common.{◌+◌, set, ◌∙◌, arith, rules}
 use Rattle.std.proofs.lemmas.List.Edits.{paste_none, fill_from_more}
 use Rattle.stats.specs.Columns.{unknown_column}
 use Rattle.sheet.proofs.blocks.put_unknown.Goals as goal

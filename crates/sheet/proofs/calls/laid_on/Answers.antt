@@ -1,4 +1,4 @@
-use Rattle.std.proofs.Common.{◌^◌, ◌<◌, length, Err, sym, ap, ◌∙◌, arith, rules}
+use Rattle.std.proofs.Common.{◌^◌, ◌<◌, length, Err, ap, ◌∙◌, arith, rules}
 use Rattle.std.proofs.lemmas.Result.{err_from_is_err_and}
 use Rattle.sheet.specs.Sheets.{sheet_of}
 use Rattle.sheet.specs.Calls.{lay}
@@ -9,7 +9,7 @@ use Rattle.sheet.proofs.calls.laid_on.Goals as goal
 
 pub returns-in_err-check_lay : goal.returns-in_err-check_lay
 returns-in_err-check_lay g c =
-    let p = err_from_is_err_and c.from-residual.result c.from-residual.ensures.1 in
+    let p = err_from_is_err_and c.from_residual.result c.from_residual.ensures.1 in
     refused _ _ _ _ _ (p.1 ∙ ap Err p.2) c.in_err-check_lay.ensures
 
 pub add_node-requires : goal.add_node-requires

@@ -1,4 +1,4 @@
-use Rattle.std.proofs.Common.{◌≡◌, sym, ap, ◌∙◌}
+use Rattle.std.proofs.Common.{sym, ap, ◌∙◌}
 use Rattle.std.proofs.lemmas.List.{drop_all}
 use Rattle.sheet.specs.Causes.{unsound_from}
 use Rattle.sheet.proofs.FindUnsound.{unsound_found, unsound_passed}

@@ -1,4 +1,4 @@
-use Rattle.std.proofs.Common.{◌≡◌, ◌+◌, ◌*◌, ◌^◌, ◌<◌, ◌≤◌, true, ◌++◌, map, length, None, Ok, Err, sym, refl, ap, ◌∙◌, arith, rules}
+use Rattle.std.proofs.Common.{◌+◌, ◌*◌, ◌^◌, ◌<◌, true, map, length, None, Err, ap, ◌∙◌, arith, rules}
 use lib.Seq.{paste}
 use Rattle.std.proofs.lemmas.Result.{err_from_is_err_and}
 use Rattle.stats.specs.declared.exactness.Precision.TheVariants.{Absent}
@@ -18,8 +18,8 @@ pub returns-in_err-check_two : goal.returns-in_err-check_two
 returns-in_err-check_two g c =
     let s = sheet_of c.args.head.now c.args.nodes.now c.args.columns.now in
     let m = crossed (table_at s c.args.l) (table_at s c.args.r) in
-    let p = err_from_is_err_and c.from-residual.result c.from-residual.ensures.1 in
-    early_refused s (op.Cross c.args.l c.args.r) m _ c.from-residual.result _ (p.1 ∙ ap Err p.2)
+    let p = err_from_is_err_and c.from_residual.result c.from_residual.ensures.1 in
+    early_refused s (op.Cross c.args.l c.args.r) m _ c.from_residual.result _ (p.1 ∙ ap Err p.2)
     (c.in_err-check_two.ensures ∙ two_early g.K.Key.relation s c.args.l c.args.r _ _ c.node_of-left.ensures c.node_of-right.ensures true true)
 
 pub cross_node-node-requires : goal.cross_node-node-requires
@@ -38,7 +38,7 @@ returns-in_err-check_size g c =
     let m = crossed (table_at s c.args.l) (table_at s c.args.r) in
     let left = c.node_of-left.ensures in
     let right = c.node_of-right.ensures in
-    let p = err_from_is_err_and c.from-residual-in_err-check_size.result c.from-residual-in_err-check_size.ensures.1 in
+    let p = err_from_is_err_and c.from_residual-in_err-check_size.result c.from_residual-in_err-check_size.ensures.1 in
     let early = c.in_ok-check_two.ensures ∙ two_early g.K.Key.relation s c.args.l c.args.r _ _ left right true true in
     let node = c.cross_node-node.ensures ∙ (λ i. node_made (op.Cross c.args.l c.args.r) (both ◌*◌ (left i).rows (right i).rows) Absent None s.head.used (c.node_of-left.result.width + c.node_of-right.result.width)) in
     size_refused s _ m _ _ _ node early _ _ (p.1 ∙ ap Err p.2) c.in_err-check_size.ensures

@@ -1,4 +1,4 @@
-use Rattle.std.proofs.Common.{◌≡◌, sym, ap, ◌∙◌}
+use Rattle.std.proofs.Common.{sym, ap, ◌∙◌}
 use Rattle.std.proofs.lemmas.List.{drop_all, get_or_default}
 use Rattle.stats.specs.Every.{every}
 use Rattle.stats.proofs.EveryMore.{every_passed, every_failed}

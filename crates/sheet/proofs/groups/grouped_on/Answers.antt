@@ -1,4 +1,4 @@
-use Rattle.std.proofs.Common.{◌≡◌, ◌+◌, ◌^◌, ◌<◌, ◌≤◌, length, Ok, Err, sym, refl, ap, ◌∙◌, arith, rules}
+use Rattle.std.proofs.Common.{◌^◌, ◌<◌, length, Err, ap, ◌∙◌, arith, rules}
 use Rattle.std.proofs.lemmas.Result.{err_from_is_err_and}
 use Rattle.std.proofs.lemmas.Bool.{leb-true}
 use Rattle.sheet.specs.declared.Node.{Node}
@@ -14,8 +14,8 @@ returns-in_err-check_group g c =
     let s = sheet_of c.args.head.now c.args.nodes.now c.args.columns.now in
     let q = c.args.grouping.now in
     let m = grouped q.mode q.sets q.extras q.by.now (table_at s q.child) in
-    let p = err_from_is_err_and c.from-residual.result c.from-residual.ensures.1 in
-    early_refused s (operator_of {K = g.row.K.Denot} (group_of q)) m _ c.from-residual.result _ (p.1 ∙ ap Err p.2)
+    let p = err_from_is_err_and c.from_residual.result c.from_residual.ensures.1 in
+    early_refused s (operator_of {K = g.row.K.Denot} (group_of q)) m _ c.from_residual.result _ (p.1 ∙ ap Err p.2)
     (c.in_err-check_group.ensures ∙ group_early s q.mode q.sets q.extras q.child q.by.now _ c.node_of-from.ensures g.K.Key.relation)
 
 pub block_of-block-requires : goal.block_of-block-requires
@@ -39,7 +39,7 @@ returns-in_err-check_size g c =
     let s = sheet_of c.args.head.now c.args.nodes.now c.args.columns.now in
     let q = c.args.grouping.now in
     let m = grouped q.mode q.sets q.extras q.by.now (table_at s q.child) in
-    let p = err_from_is_err_and c.from-residual-in_err-check_size.result c.from-residual-in_err-check_size.ensures.1 in
+    let p = err_from_is_err_and c.from_residual-in_err-check_size.result c.from_residual-in_err-check_size.ensures.1 in
     let early = c.in_ok-check_group.ensures ∙ group_early s q.mode q.sets q.extras q.child q.by.now _ c.node_of-from.ensures g.K.Key.relation in
     let counted = c.count_groups-groups.ensures ∙ ap (group_count q.mode q.sets q.by.now) c.block_of-block.ensures in
     let node = c.group_node-node.ensures ∙ group_is s q.mode q.sets q.extras q.child q.by.now _ c.node_of-from.ensures _ counted _ _ in

@@ -1,4 +1,4 @@
-use Rattle.std.proofs.Common.{◌≡◌, Some, fold, sym, ap, ◌∙◌}
+use Rattle.std.proofs.Common.{Some, fold, sym, ap, ◌∙◌}
 use Rattle.std.proofs.lemmas.List.{drop_all}
 use Rattle.sheet.specs.Made.{key_groups, groups_times}
 use Rattle.sheet.proofs.GroupLoops.{product_unknown, product_more}
@@ -6,7 +6,7 @@ use Rattle.sheet.proofs.groups.product_of.Goals as goal
 
 pub returns-in_err-groups_of : goal.returns-in_err-groups_of
 returns-in_err-groups_of g c =
-    c.from-residual.ensures ∙ sym (product_unknown c.args.columns.now c.args.by.now c.loop-key.key-index c.loop-key.product _ c.loop-key-test.true (sym c.in_err-groups_of.ensures)) ∙ c.loop-key.invariant
+    c.from_residual.ensures ∙ sym (product_unknown c.args.columns.now c.args.by.now c.loop-key.key-index c.loop-key.product _ c.loop-key-test.true (sym c.in_err-groups_of.ensures)) ∙ c.loop-key.invariant
 
 pub loop-key-preserved : goal.loop-key-preserved
 loop-key-preserved g c =

@@ -1,4 +1,4 @@
-use Rattle.std.proofs.Common.{◌≡◌, ◌+◌, ◌≤◌, length, ap, ◌∙◌, arith}
+use Rattle.std.proofs.Common.{◌+◌, length, ap, ◌∙◌, arith}
 use lib.Seq.{paste}
 use Rattle.sheet.specs.Sheets.{block}
 use Rattle.sheet.specs.Made.{unknowns}

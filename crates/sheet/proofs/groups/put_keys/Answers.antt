@@ -1,4 +1,4 @@
-use Rattle.std.proofs.Common.{◌≡◌, ◌+◌, ◌<◌, length, get_or, set, ap, ◌∙◌, arith, rules}
+use Rattle.std.proofs.Common.{◌+◌, ◌<◌, length, get_or, set, ap, ◌∙◌, arith, rules}
 use Rattle.std.proofs.lemmas.List.Edits.{paste_none}
 use Rattle.stats.specs.Trim.{trimmed}
 use Rattle.sheet.specs.Shorts.{no_key}
@@ -11,8 +11,8 @@ use Rattle.sheet.proofs.groups.put_keys.Goals as goal
 pub loop-i-init : goal.loop-i-init
 loop-i-init g c = search (rules, paste_none)
 
-pub offset-bounds-columns-at : goal.offset-bounds-columns-at
-offset-bounds-columns-at g c =
+pub offset_bounds-columns-at : goal.offset_bounds-columns-at
+offset_bounds-columns-at g c =
     let l : c.args.at + c.loop-i.i < length c.args.columns.now = omega (arith, c.requires.space) in
     search rules
 

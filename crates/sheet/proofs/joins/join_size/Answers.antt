@@ -1,4 +1,4 @@
-use Rattle.std.proofs.Common.{◌≡◌, true, false, sym, ap, ◌∙◌, ⊎_elim}
+use Rattle.std.proofs.Common.{true, false, sym, ap, ◌∙◌, ⊎_elim}
 use Rattle.questions.specs.declared.types.JoinType.{JoinType}
 use Rattle.questions.specs.declared.types.JoinSide.TheVariants.{Left, Right}
 use Rattle.sheet.specs.Sheets.{table_of}

@@ -1,4 +1,4 @@
-use Rattle.std.proofs.Common.{◌≡◌, ◌+◌, ◌^◌, ◌<◌, ◌≤◌, length, Ok, Err, sym, refl, ap, ◌∙◌, arith, rules}
+use Rattle.std.proofs.Common.{◌^◌, ◌<◌, length, Err, ap, ◌∙◌, arith, rules}
 use Rattle.std.proofs.lemmas.Result.{err_from_is_err_and}
 use Rattle.std.proofs.lemmas.Bool.{leb-true}
 use Rattle.sheet.specs.declared.Node.{Node}
@@ -15,8 +15,8 @@ returns-in_err-check_join g c =
     let j = c.args.join.now in
     let e = g.E.Estimator.figure c.args.estimator.now in
     let m = joined e j.join_type j.null_equality j.on.now (table_at s j.left) (table_at s j.right) in
-    let p = err_from_is_err_and c.from-residual.result c.from-residual.ensures.1 in
-    early_refused s (operator_of {K = g.row.K.Denot} (join_of j)) m _ c.from-residual.result _ (p.1 ∙ ap Err p.2)
+    let p = err_from_is_err_and c.from_residual.result c.from_residual.ensures.1 in
+    early_refused s (operator_of {K = g.row.K.Denot} (join_of j)) m _ c.from_residual.result _ (p.1 ∙ ap Err p.2)
     (c.in_err-check_join.ensures ∙ join_early e s j.join_type j.null_equality j.left j.right j.on.now _ _ c.node_of-left.ensures c.node_of-right.ensures g.K.Key.relation)
 
 pub ask-figure-requires : goal.ask-figure-requires
@@ -52,7 +52,7 @@ returns-in_err-check_size g c =
     let j = c.args.join.now in
     let e = g.E.Estimator.figure c.args.estimator.now in
     let m = joined e j.join_type j.null_equality j.on.now (table_at s j.left) (table_at s j.right) in
-    let p = err_from_is_err_and c.from-residual-in_err-check_size.result c.from-residual-in_err-check_size.ensures.1 in
+    let p = err_from_is_err_and c.from_residual-in_err-check_size.result c.from_residual-in_err-check_size.ensures.1 in
     let early = c.in_ok-check_join.ensures ∙ join_early e s j.join_type j.null_equality j.left j.right j.on.now _ _ c.node_of-left.ensures c.node_of-right.ensures g.K.Key.relation in
     let node = c.join_node-node.ensures ∙ join_is e s j.join_type j.null_equality j.left j.right j.on.now _ _ c.node_of-left.ensures c.node_of-right.ensures _ c.ask-figure.ensures _ _ in
     size_refused s _ m _ _ _ node early _ _ (p.1 ∙ ap Err p.2) c.in_err-check_size.ensures

@@ -1,4 +1,4 @@
-use Rattle.std.proofs.Common.{◌≡◌, map, sym, ap, ◌∙◌, ⊎_elim}
+use Rattle.std.proofs.Common.{map, sym, ap, ◌∙◌, ⊎_elim}
 use lib.Seq.{paste}
 use Rattle.stats.specs.Trim.{trimmed}
 use Rattle.questions.specs.declared.types.JoinType.{JoinType}

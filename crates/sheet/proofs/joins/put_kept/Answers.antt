@@ -1,4 +1,4 @@
-use Rattle.std.proofs.Common.{◌≡◌, ◌+◌, ◌≤◌, ap, ◌∙◌, arith}
+use Rattle.std.proofs.Common.{ap, ◌∙◌, arith}
 use lib.Seq.{paste}
 use Rattle.sheet.specs.Sheets.{table_of}
 use Rattle.sheet.specs.Made.{key_columns}

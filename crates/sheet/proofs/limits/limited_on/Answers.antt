@@ -1,10 +1,9 @@
-use Rattle.std.proofs.Common.{◌≡◌, ◌+◌, ◌^◌, ◌<◌, ◌≤◌, true, length, Ok, Err, sym, refl, ap, ◌∙◌, arith, rules}
+use Rattle.std.proofs.Common.{◌^◌, ◌<◌, true, length, Err, ap, ◌∙◌, arith, rules}
 use Rattle.std.proofs.lemmas.Result.{err_from_is_err_and}
 use Rattle.sheet.specs.declared.Node.{Node}
 use Rattle.sheet.specs.declared.operators.Operator.TheVariants as op
 use Rattle.sheet.specs.Sheets.{sheet_of, table_at}
 use Rattle.sheet.specs.Made.{limited}
-use Rattle.sheet.specs.Causes.{one_child}
 use Rattle.sheet.proofs.Children.{one_room, one_readable}
 use Rattle.sheet.proofs.Carried.{early_refused, size_refused, carried_out}
 use Rattle.sheet.proofs.LimitMade.{limit_early, limit_is, limit_wide, limit_writes}
@@ -14,14 +13,14 @@ pub returns-in_err-check_one : goal.returns-in_err-check_one
 returns-in_err-check_one g c =
     let s = sheet_of c.args.head.now c.args.nodes.now c.args.columns.now in
     let from = c.node_of-from.ensures in
-    let p = err_from_is_err_and c.from-residual.result c.from-residual.ensures.1 in
-    early_refused s (op.Limit c.args.child c.args.skip c.args.fetch) (limited c.args.skip c.args.fetch (table_at s c.args.child)) _ c.from-residual.result _ (p.1 ∙ ap Err p.2) (c.in_err-check_one.ensures ∙ limit_early g.K.Key.relation s c.args.child c.args.skip c.args.fetch _ from)
+    let p = err_from_is_err_and c.from_residual.result c.from_residual.ensures.1 in
+    early_refused s (op.Limit c.args.child c.args.skip c.args.fetch) (limited c.args.skip c.args.fetch (table_at s c.args.child)) _ c.from_residual.result _ (p.1 ∙ ap Err p.2) (c.in_err-check_one.ensures ∙ limit_early g.K.Key.relation s c.args.child c.args.skip c.args.fetch _ from)
 
 pub returns-in_err-check_size : goal.returns-in_err-check_size
 returns-in_err-check_size g c =
     let s = sheet_of c.args.head.now c.args.nodes.now c.args.columns.now in
     let from = c.node_of-from.ensures in
-    let p = err_from_is_err_and c.from-residual-in_err-check_size.result c.from-residual-in_err-check_size.ensures.1 in
+    let p = err_from_is_err_and c.from_residual-in_err-check_size.result c.from_residual-in_err-check_size.ensures.1 in
     let early = c.in_ok-check_one.ensures ∙ limit_early g.K.Key.relation s c.args.child c.args.skip c.args.fetch _ from in
     let node = c.limit_node-node.ensures ∙ limit_is g.K.Key.relation s c.args.child c.args.skip c.args.fetch _ from in
     size_refused s _ (limited c.args.skip c.args.fetch (table_at s c.args.child)) _ _ _ node early _ _ (p.1 ∙ ap Err p.2) c.in_err-check_size.ensures

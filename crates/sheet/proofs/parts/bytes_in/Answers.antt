@@ -1,4 +1,4 @@
-use Rattle.std.proofs.Common.{◌≡◌, fold, sym, ap, ◌∙◌}
+use Rattle.std.proofs.Common.{fold, ap, ◌∙◌}
 use Rattle.std.proofs.lemmas.List.{take_all}
 use Rattle.stats.specs.declared.exactness.Precision.TheVariants.{Exact}
 use Rattle.stats.specs.Precisions.{inexact, total}

@@ -1,4 +1,4 @@
-use Rattle.std.proofs.Common.{◌≡◌, Ok, sym, ap, ◌∙◌}
+use Rattle.std.proofs.Common.{Ok, sym, ap, ◌∙◌}
 use Rattle.sheet.specs.Sheets.{sheet_of, block}
 use Rattle.sheet.specs.Steps.{answered}
 use Rattle.sheet.specs.Reads.{reading_at, read_refusal}

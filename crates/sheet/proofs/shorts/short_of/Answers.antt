@@ -1,5 +1,4 @@
-use Rattle.std.proofs.Common.{◌≡◌, ◌+◌, ◌<◌, length, get_or, set, replicate, sym, ap, ◌∙◌, arith}
-use lib.Seq.{paste}
+use Rattle.std.proofs.Common.{◌≡◌, ◌+◌, set, replicate, ◌∙◌, arith}
 use Rattle.std.proofs.lemmas.List.Edits.{paste_more}
 use Rattle.sheet.proofs.shorts.short_of.Goals as goal
 

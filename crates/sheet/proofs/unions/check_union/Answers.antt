@@ -1,4 +1,4 @@
-use Rattle.std.proofs.Common.{◌≡◌, ℕ, ◌+◌, ◌-◌, true, ◌&&◌, eqb, leb, length, get_or, sym, ap, ◌∙◌}
+use Rattle.std.proofs.Common.{ℕ, ◌+◌, ◌-◌, true, ◌&&◌, eqb, leb, length, get_or, ap, ◌∙◌}
 use Rattle.stats.specs.Every.{every}
 use Rattle.sheet.specs.Sheets.{no_node}
 use Rattle.sheet.specs.Causes.{max_width}

@@ -1,4 +1,4 @@
-use Rattle.std.proofs.Common.{◌≡◌, ◌+◌, ◌^◌, ◌<◌, ◌≤◌, map, length, Ok, Err, sym, refl, ap, ◌∙◌, arith, rules}
+use Rattle.std.proofs.Common.{◌^◌, ◌<◌, map, length, Err, ap, ◌∙◌, arith, rules}
 use Rattle.std.proofs.lemmas.Result.{err_from_is_err_and}
 use Rattle.sheet.specs.declared.Node.{Node}
 use Rattle.sheet.specs.declared.operators.Operator.TheVariants as op
@@ -13,8 +13,8 @@ pub returns-in_err-check_union : goal.returns-in_err-check_union
 returns-in_err-check_union g c =
     let s = sheet_of c.args.head.now c.args.nodes.now c.args.columns.now in
     let cs = c.args.children.now in
-    let p = err_from_is_err_and c.from-residual.result c.from-residual.ensures.1 in
-    early_refused s (op.Union (kept_as 0 cs)) (united (map (table_at s) cs)) _ c.from-residual.result _ (p.1 ∙ ap Err p.2) c.in_err-check_union.ensures
+    let p = err_from_is_err_and c.from_residual.result c.from_residual.ensures.1 in
+    early_refused s (op.Union (kept_as 0 cs)) (united (map (table_at s) cs)) _ c.from_residual.result _ (p.1 ∙ ap Err p.2) c.in_err-check_union.ensures
 
 pub union_node-node-requires : goal.union_node-node-requires
 union_node-node-requires g c =
@@ -25,7 +25,7 @@ pub returns-in_err-check_size : goal.returns-in_err-check_size
 returns-in_err-check_size g c =
     let s = sheet_of c.args.head.now c.args.nodes.now c.args.columns.now in
     let cs = c.args.children.now in
-    let p = err_from_is_err_and c.from-residual-in_err-check_size.result c.from-residual-in_err-check_size.ensures.1 in
+    let p = err_from_is_err_and c.from_residual-in_err-check_size.result c.from_residual-in_err-check_size.ensures.1 in
     let node = c.union_node-node.ensures ∙ union_is g.K.Key.relation s cs (op.Union (kept_as 0 cs)) _ in
     size_refused s _ (united (map (table_at s) cs)) _ _ _ node c.in_ok-check_union.ensures _ _ (p.1 ∙ ap Err p.2) c.in_err-check_size.ensures
 
