@@ -15,7 +15,7 @@ use Rattle.sheet.specs.declared.operators.Operator.{Operator}
 use Rattle.sheet.specs.Sheets.{Sheet, Table, node_at, table_at, no_node}
 use Rattle.sheet.specs.Calls.{union}
 use Rattle.sheet.specs.Made.{Made, unknowns, first_width, united}
-use Rattle.sheet.specs.Causes.{no_node_memory, fit_child, block_inside, max_width, max_children, union_width, columns_fit, early_refusal}
+use Rattle.sheet.specs.Causes.{no_node_memory, fit_child, block_inside, max_width, max_children, union_width, width_of_first, columns_fit, early_refusal}
 use Rattle.sheet.specs.Steps.{node_made, checked, no_figure}
 use Rattle.sheet.proofs.Unknowns.{unknowns_trimmed}
 use Rattle.sheet.proofs.Widths.{made_wide}
@@ -25,6 +25,10 @@ use Rattle.sheet.proofs.Children.{six_passed, node_room}
 folded_map : {A B C : Type 0} (f : C → B → C) (g : A → B) (a : C) (xs : List A) → fold (λ c x. f c (g x)) a xs ≡ fold f a (map g xs)
 folded_map f g a [] = refl
 folded_map f g a (x ∷ xs) = folded_map f g (f a (g x)) xs
+
+pub first_is : {K : Type 0} (s : Sheet K) (cs : List ℕ) → width_of_first s.nodes cs ≡ union_width s cs
+first_is s [] = refl
+first_is s (c ∷ cs) = refl
 
 module _ {K : Type 0} (relation : K → K → Relation) (s : Sheet K) (cs : List ℕ) where
   abbrev rows : Precision ℕ
@@ -52,11 +56,12 @@ module _ {K : Type 0} (relation : K → K → Relation) (s : Sheet K) (cs : List
     pub space : s.head.used + w ≤ length s.columns
     pub wide : length makes.columns ≡ w
 
-  pub union_fits : Ok tt ≡ checked (early_refusal relation s (union cs)) → (w : ℕ) → w ≡ union_width s.nodes cs → UnionFits w
-  union_fits h w e =
-      let x = six_passed (not (no_node_memory s)) (every (fit_child relation s) cs) (leb 1 (length cs) && leb (length cs) max_children) true (every (λ c. eqb (node_at s c).width (union_width s.nodes cs)) cs && leb (union_width s.nodes cs) max_width) (columns_fit s (union cs)) h in
-      let p = and_parts (leb (s.head.used + union_width s.nodes cs) (length s.columns)) (every (λ n. block_inside s (node_at s n)) cs) x.memory in
-      let q = leb-true (s.head.used + union_width s.nodes cs) (length s.columns) p.0 in
+  pub union_fits : Ok tt ≡ checked (early_refusal relation s (union cs)) → (w : ℕ) → w ≡ width_of_first s.nodes cs → UnionFits w
+  union_fits h w first =
+      let e = first ∙ first_is s cs in
+      let x = six_passed (not (no_node_memory s)) (every (fit_child relation s) cs) (leb 1 (length cs) && leb (length cs) max_children) true (every (λ c. eqb (node_at s c).width (union_width s cs)) cs && leb (union_width s cs) max_width) (columns_fit s (union cs)) h in
+      let p = and_parts (leb (s.head.used + union_width s cs) (length s.columns)) (every (λ n. block_inside s (node_at s n)) cs) x.memory in
+      let q = leb-true (s.head.used + union_width s cs) (length s.columns) p.0 in
       record {
         room = node_room s x.node;
         few = leb-true (length cs) 8 (and_parts (leb 1 (length cs)) (leb (length cs) max_children) x.count).1;

@@ -92,16 +92,21 @@ join_width type.LeftMark l r = l + 1
 join_width type.RightMark l r = r + 1
 
 -- that of the first child
-abbrev pub union_width : List Node → List ℕ → ℕ
-union_width nodes [] = 0
-union_width nodes (c ∷ cs) = (slice_index_or nodes (c - 1) no_node).width
+abbrev pub union_width : {K : Type 0} → Sheet K → List ℕ → ℕ
+union_width s [] = 0
+union_width s (c ∷ cs) = (node_at s c).width
+
+-- the same, from node memory
+abbrev pub width_of_first : List Node → List ℕ → ℕ
+width_of_first nodes [] = 0
+width_of_first nodes (c ∷ cs) = (slice_index_or nodes (c - 1) no_node).width
 
 abbrev pub width_of : {K : Type 0} → Sheet K → Order K → ℕ
 width_of s (lay rows bytes columns) = length columns
 width_of s (join t rule l r pairs) = join_width t (node_at s l).width (node_at s r).width
 width_of s (cross l r) = (node_at s l).width + (node_at s r).width
 width_of s (limit c skip fetch) = (node_at s c).width
-width_of s (union cs) = union_width s.nodes cs
+width_of s (union cs) = union_width s cs
 width_of s (group mode sets extras c keys) = length keys + extras
 
 -- the children of a union are of one width
@@ -110,7 +115,7 @@ same_widths s (lay rows bytes columns) = true
 same_widths s (join t rule l r pairs) = true
 same_widths s (cross l r) = true
 same_widths s (limit c skip fetch) = true
-same_widths s (union cs) = every (λ c. nat_eq (node_at s c).width (union_width s.nodes cs)) cs
+same_widths s (union cs) = every (λ c. nat_eq (node_at s c).width (union_width s cs)) cs
 same_widths s (group mode sets extras c keys) = true
 
 abbrev pub width_fits : {K : Type 0} → Sheet K → Order K → Bool

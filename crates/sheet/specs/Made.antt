@@ -52,13 +52,13 @@ combined_rows None = Absent
 -- inner and outer joins: the columns of both children
 abbrev pub combined : {K : Type 0} → Option Figure → Table K → Table K → Made K
 combined (Some f) l r = record {
-  rows = combined_rows (Some f);
+  rows = inexact (rows_of f);
   bytes = Absent;
   figure = Some f;
   columns = map column_inexact (l.columns ++ r.columns);
 }
 combined None l r = record {
-  rows = combined_rows None;
+  rows = Absent;
   bytes = Absent;
   figure = None;
   columns = unknowns (length (l.columns ++ r.columns));
@@ -256,17 +256,20 @@ abbrev pub groups_bytes : Option ℕ → Precision ℕ → Precision ℕ → Pre
 groups_bytes (Some p) rows bytes = rescaled_bytes bytes rows (groups_rows (Some p) rows)
 groups_bytes None rows bytes = Absent
 
--- one column a key, and the extra ones; none of them known without a count
-abbrev pub groups_columns : {K : Type 0} → Option ℕ → ℕ → List KeySide → List (ColumnStatistics K) → List (ColumnStatistics K)
-groups_columns (Some p) extras keys columns = map (key_column columns) keys ++ unknowns extras
-groups_columns None extras keys columns = unknowns (length keys + extras)
-
 abbrev pub grouped_by : {K : Type 0} → Option ℕ → ℕ → List KeySide → Table K → Made K
-grouped_by groups extras keys t = record {
-  rows = groups_rows groups t.rows;
-  bytes = groups_bytes groups t.rows t.bytes;
+grouped_by (Some p) extras keys t =
+    let new = Inexact (at_most_rows p (known t.rows)) in
+    record {
+      rows = new;
+      bytes = rescaled_bytes t.bytes t.rows new;
+      figure = None;
+      columns = map (key_column t.columns) keys ++ unknowns extras;
+    }
+grouped_by None extras keys t = record {
+  rows = Absent;
+  bytes = Absent;
   figure = None;
-  columns = groups_columns groups extras keys t.columns;
+  columns = unknowns (length keys + extras);
 }
 
 abbrev pub grouped : {K : Type 0} → AggregateMode → ℕ → ℕ → List KeySide → Table K → Made K

@@ -34,7 +34,14 @@ with_node operator m s =
     let width = length m.columns in
     record {
       head = record { count = s.head.count + 1; used = s.head.used + width };
-      nodes = slice_set s.nodes s.head.count (node_made operator m.rows m.bytes m.figure s.head.used width);
+      nodes = slice_set s.nodes s.head.count (record {
+        rows = m.rows;
+        bytes = m.bytes;
+        place = s.head.used;
+        width = width;
+        figure = m.figure;
+        operator = operator;
+      });
       columns = paste s.columns s.head.used (map (trimmed m.rows) m.columns) width;
     }
 

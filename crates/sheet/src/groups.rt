@@ -203,7 +203,7 @@ fn group_node(place: usize, from: &Node, grouping: &Grouping<'_>, groups: Option
         operator: Operator::Group {
             mode: grouping.mode,
             sets: grouping.sets,
-            extras: grouping.extras,
+            extras: grouping.extras as u64,
             child: grouping.child,
             by: short_of(KeySide::Column(0), grouping.by),
         },

@@ -41,7 +41,7 @@ pub enum Operator {
     Group {
         mode: AggregateMode,
         sets: u64,
-        extras: usize,
+        extras: u64,
         child: usize,
         by: Short<KeySide>,
     },

@@ -8,7 +8,7 @@ ghost use Rattle.sheet.specs.declared.operators.Operator.TheVariants as op;
 ghost use Rattle.sheet.specs.Shorts.{kept_as};
 ghost use Rattle.sheet.specs.Sheets.{sheet_of, no_node};
 ghost use Rattle.sheet.specs.Calls.{order, union};
-ghost use Rattle.sheet.specs.Causes.{union_width, fit_child, early_refusal, max_children, max_width};
+ghost use Rattle.sheet.specs.Causes.{width_of_first, fit_child, early_refusal, max_children, max_width};
 ghost use Rattle.sheet.specs.Steps.{node_made, stepped, checked, step, no_figure};
 
 use crate::blocks::put_unknown;
@@ -27,7 +27,7 @@ pub const MAX_CHILDREN: usize = 8;
 
 /// The width of the first child.
 fn union_width(nodes: &[Node], children: &[usize]) -> usize
-    ensures { result ≡ union_width nodes.now children.now }
+    ensures { result ≡ width_of_first nodes.now children.now }
 {
     match children {
         [first, ..] => node_of(nodes, *first).width,

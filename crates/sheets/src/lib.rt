@@ -12,7 +12,7 @@ use keys::Key;
 use questions::Estimator;
 use sheet::{BLANK, Grouping, Head, Join, Node, NodeView, Operator, Refusal};
 use stats::{ColumnStatistics, Precision};
-use std::alloc::{AllocError, Allocator};
+use std::alloc::{AllocError, Global};
 
 /// What node memory holds before a node is put there.
 const UNUSED: Node = Node {
@@ -27,26 +27,26 @@ const UNUSED: Node = Node {
 /// A sheet with memory for a stated number of nodes and of columns. Its numbers
 /// and refusals are those of the calls of `Head`.
 #[derive(Drop)]
-pub struct Sheet<K, E, A: Allocator> {
+pub struct Sheet<K, E> {
     head: Head,
-    nodes: Vec<Node, A>,
-    columns: Vec<ColumnStatistics<K>, A>,
+    nodes: Vec<Node>,
+    columns: Vec<ColumnStatistics<K>>,
     estimator: E,
 }
 
-impl<K: Key, E: Estimator<K> + Copy, A: Allocator> Sheet<K, E, A> {
+impl<K: Key, E: Estimator<K> + Copy> Sheet<K, E> {
     /// A blank sheet.
     pub fn new(
-        heap: A,
+        alloc: Global,
         nodes: usize,
         columns: usize,
         estimator: E,
-    ) -> Result<Sheet<K, E, A>, AllocError>
+    ) -> Result<Sheet<K, E>, AllocError>
         ensures { IfOk result (λ s. Fresh nodes columns estimator s) }
     {
-        let mut node_memory = Vec::new(heap);
+        let mut node_memory = Vec::new(alloc);
         node_memory.resize(nodes, UNUSED)?;
-        let mut column_memory = Vec::new(heap);
+        let mut column_memory = Vec::new(alloc);
         column_memory.resize(columns, ColumnStatistics::unknown())?;
         Ok(Sheet {
             head: BLANK,

@@ -18,7 +18,6 @@ use Rattle.questions.specs.declared.types.KeyPair.{KeyPair}
 use Rattle.questions.specs.declared.figures.Figure.{Figure}
 use Rattle.questions.specs.declared.figures.Figure.TheVariants as figure
 use Rattle.questions.specs.Questions.{Question}
-use Rattle.estimators.specs.declared.pairs.KeyColumns.{KeyColumns}
 use Rattle.estimators.specs.Disjoint.{disjoint_pair}
 use Rattle.estimators.specs.WidestFigures.{widest_figure}
 use Rattle.estimators.specs.Product.{product_figure}

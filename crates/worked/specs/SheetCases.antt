@@ -10,13 +10,12 @@ use Rattle.stats.specs.Columns.{unknown_column}
 use Rattle.questions.specs.declared.types.JoinType.TheVariants as type
 use Rattle.questions.specs.declared.types.NullEquality.TheVariants.{NullEqualsNull}
 use Rattle.questions.specs.declared.types.KeySide.TheVariants.{Column}
-use Rattle.questions.specs.declared.figures.Figure.{Figure}
 use Rattle.questions.specs.declared.figures.Figure.TheVariants as figure
 use Rattle.sheet.specs.declared.refusals.Refusal.TheVariants.{Rows}
 use Rattle.sheet.specs.declared.operators.AggregateMode.TheVariants.{Single}
 use Rattle.sheet.specs.Sheets.{Sheet, no_node, node_at}
 use Rattle.sheet.specs.Calls.{Call, order, lay, join, limit, group}
-use Rattle.sheet.specs.Steps.{Step, step}
+use Rattle.sheet.specs.Steps.{step}
 use Rattle.worked.specs.Cases.{counts, pair_of, widest_of}
 
 -- memory for so many nodes and columns, and nothing on it

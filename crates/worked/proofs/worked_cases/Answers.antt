@@ -1,4 +1,4 @@
-use Rattle.std.proofs.Common.{◌≡◌, refl}
+use Rattle.std.proofs.Common.{refl}
 use lib.Ieee.{to_unsigned, mul, div, sub, of_int}
 use Rattle.std.specs.Float.{round_with}
 use Rattle.worked.specs.Cases.{WorkedCases}

@@ -1,7 +1,6 @@
-use Rattle.std.proofs.Common.{sym, ap, ◌∙◌, rules}
+use Rattle.std.proofs.Common.{rules}
 use Rattle.std.proofs.lemmas.List.Sums.{fold_more}
 use Rattle.std.proofs.lemmas.List.{take_all}
-use Rattle.planner.specs.Tables.{rows_total}
 use Rattle.planner.proofs.tables.total_rows.Goals as goal
 
 pub loop-rows-preserved : goal.loop-rows-preserved

@@ -1,9 +1,10 @@
 use Rattle.std.proofs.Common.{ℕ, ◌+◌, ◌-◌, true, ◌&&◌, eqb, leb, length, get_or, ap, ◌∙◌}
 use Rattle.stats.specs.Every.{every}
-use Rattle.sheet.specs.Sheets.{no_node}
+use Rattle.sheet.specs.Sheets.{no_node, sheet_of}
 use Rattle.sheet.specs.Causes.{max_width}
 use Rattle.sheet.specs.Steps.{checked}
 use Rattle.sheet.proofs.Children.{causes}
+use Rattle.sheet.proofs.UnionCarried.{first_is}
 use Rattle.sheet.proofs.unions.check_union.Goals as goal
 
 pub returns : goal.returns
@@ -12,7 +13,7 @@ returns g c =
     let children = c.args.children.now in
     let head = c.args.head.now in
     let columns = c.args.columns.now in
-    let wide = c.union_width-width.ensures in
+    let wide = c.union_width-width.ensures ∙ first_is (sheet_of head nodes columns) children in
     let narrow = c.are_narrow-narrow.ensures ∙ ap (λ w. every (λ (n : ℕ). eqb (get_or nodes (n - 1) no_node).width w) children && leb w max_width) wide in
     let memory = c.fits_union-memory.ensures ∙ ap (λ w. leb (head.used + w) (length columns) && every (λ (n : ℕ). leb ((get_or nodes (n - 1) no_node).place + (get_or nodes (n - 1) no_node).width) head.used) children) wide in
     c.first_cause.ensures ∙

@@ -1,4 +1,4 @@
-use Rattle.std.proofs.Common.{◌≡◌, refl}
+use Rattle.std.proofs.Common.{refl}
 use Rattle.sheet.specs.Calls.{cut}
 use Rattle.sheets.proofs.Refilled.{outcome_of_head, keeps_of_head}
 use Rattle.sheets.proofs.Sheet.cut.Goals as goal

@@ -1,4 +1,4 @@
-use Rattle.std.proofs.Common.{◌≡◌, refl, ◌∙◌}
+use Rattle.std.proofs.Common.{refl, ◌∙◌}
 use Rattle.sheet.specs.Calls.{join_of, order}
 use Rattle.sheets.proofs.Refilled.{outcome_put_back, keeps_put_back}
 use Rattle.sheets.proofs.Sheet.join.Goals as goal

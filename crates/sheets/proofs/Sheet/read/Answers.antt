@@ -1,4 +1,4 @@
-use Rattle.std.proofs.Common.{◌≡◌, ap, ◌∙◌, subst}
+use Rattle.std.proofs.Common.{ap, ◌∙◌, subst}
 use Rattle.sheet.specs.Least.{read_clear, Least}
 use Rattle.sheet.specs.Reads.{read_answer, shown}
 use Rattle.sheets.proofs.Refilled.{before, keeps_of_head}
