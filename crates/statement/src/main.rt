@@ -13,7 +13,7 @@ use stats::{ColumnStatistics, Precision};
 use std::alloc::Global;
 use std::io;
 
-type Report = Sheet<Whole, Chain<Widest, Product>, Global>;
+type Report = Sheet<Whole, Chain<Widest, Product>>;
 
 const NONE: Precision<u64> = Precision::Absent;
 
