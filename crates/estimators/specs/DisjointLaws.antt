@@ -17,7 +17,7 @@ use Rattle.stats.specs.Columns.{at_or_after, if_present, lawful}
 use Rattle.questions.specs.declared.types.NullEquality.{NullEquality}
 use Rattle.questions.specs.declared.types.NullEquality.TheVariants.{NullEqualsNothing, NullEqualsNull}
 use Rattle.estimators.specs.declared.pairs.KeyColumns.{KeyColumns}
-use Rattle.estimators.specs.KeyColumns.{turned as Seen-turned}
+use Rattle.estimators.specs.KeyColumns.{turned as seen_turned}
 use Rattle.estimators.specs.Zeros.{zero_of, or_else}
 use Rattle.estimators.specs.Disjoint.{is_after, when_after, low_past_high, no_null_match, disjoint_pair, disjoint}
 use Rattle.estimators.specs.Swaps.{either_swap, or_else_swap}
@@ -94,7 +94,7 @@ module _ {K : Type 0} {relation : K → K → Relation} {size : K → K → Opti
       let b = laws.before p.second q.second q.first a (turned_back q.first q.second q.result) in
       not_before_itself laws p.second (before_at laws p.second q.first p.second b (ends_in_order d q.first p.second ld q.first_is p.second_is))
 
-  nulls_swap : (rule : NullEquality) (k : KeyColumns K) → no_null_match rule (Seen-turned k) ≡ no_null_match rule k
+  nulls_swap : (rule : NullEquality) (k : KeyColumns K) → no_null_match rule (seen_turned k) ≡ no_null_match rule k
   nulls_swap NullEqualsNothing k = refl
   nulls_swap NullEqualsNull k = either_swap (zero_of k.other.null_count) (zero_of k.this.null_count)
 
@@ -102,10 +102,10 @@ module _ {K : Type 0} {relation : K → K → Relation} {size : K → K → Opti
   abbrev pub LawfulPair : KeyColumns K → Type 0
   LawfulPair k = (lawful relation k.this ≡ true) × (lawful relation k.other ≡ true)
 
-  pub pair_swap : (rule : NullEquality) (k : KeyColumns K) → LawfulPair k → disjoint_pair relation rule (Seen-turned k) ≡ disjoint_pair relation rule k
+  pub pair_swap : (rule : NullEquality) (k : KeyColumns K) → LawfulPair k → disjoint_pair relation rule (seen_turned k) ≡ disjoint_pair relation rule k
   pair_swap rule k l =
       λ i. both (λ a b. 0) (or_else_swap (low_past_high relation k.other k.this) (low_past_high relation k.this k.other) (one_way k.other k.this l.1 l.0) i) (nulls_swap rule k i)
 
-  pub disjoint_swap : {A : Type 0} (rule : NullEquality) (f : A → KeyColumns K) → ((x : A) → LawfulPair (f x)) → (xs : List A) → disjoint relation rule (map (λ x. Seen-turned (f x)) xs) ≡ disjoint relation rule (map f xs)
+  pub disjoint_swap : {A : Type 0} (rule : NullEquality) (f : A → KeyColumns K) → ((x : A) → LawfulPair (f x)) → (xs : List A) → disjoint relation rule (map (λ x. seen_turned (f x)) xs) ≡ disjoint relation rule (map f xs)
   disjoint_swap rule f l [] = refl
   disjoint_swap rule f l (x ∷ xs) = λ i. or_else (pair_swap rule (f x) (l x) i) (disjoint_swap rule f l xs i)

@@ -76,13 +76,13 @@ few_of (Exact v) m M h = omega arith
 few_of (Inexact v) m M h = omega arith
 few_of Absent m M h = tt
 
-module _ {K : Type 0} (size : K → K → Option ℕ) (rule : NullEquality) (n m : ℕ) (kept others : Precision ℕ) (N : 0 < n) (F : n ≤ 2 ^ 26) (G : m ≤ 2 ^ 26) (is : known kept ≡ Some n) (other-is : known others ≡ Some m) where
+module _ {K : Type 0} (size : K → K → Option ℕ) (rule : NullEquality) (n m : ℕ) (kept others : Precision ℕ) (N : 0 < n) (F : n ≤ 2 ^ 26) (G : m ≤ 2 ^ 26) (is : known kept ≡ Some n) (other_is : known others ≡ Some m) where
   pair_part : (k : KeyColumns K) → Part (pair_factor size rule n kept others k)
   pair_part k =
       some_cond (has_statistics k.this && has_statistics k.other) _
       (factor_part (null_part rule k.this.null_count n) (nulls_upto rule k.this.null_count n N F) (known (max_distinct size kept k.this)) (known (max_distinct size others k.other))
       (few_of (max_distinct size kept k.this) n F ((distincts size kept k.this).at_most_rows n is))
-      (few_of (max_distinct size others k.other) m G ((distincts size others k.other).at_most_rows m other-is)))
+      (few_of (max_distinct size others k.other) m G ((distincts size others k.other).at_most_rows m other_is)))
 
   folded_part : (ks : List (KeyColumns K)) (s : Option Float) → Part s → Part (fold (λ s k. times s (pair_factor size rule n kept others k)) s ks)
   folded_part [] s h = h

@@ -1,7 +1,7 @@
 -- A new block after the others leaves them as they were. Assumes nothing.
 use Rattle.std.proofs.Common.{◌≡◌, ℕ, ◌+◌, ◌≤◌, List, [], ◌∷◌, map, length, take, drop, replicate, arith, rules}
 use lib.Seq.{paste}
-use Rattle.std.specs.List.{AllByRecursion as All}
+use Rattle.std.specs.List.{AllByRecursion}
 use Rattle.std.proofs.lemmas.List.{places, same_lists}
 use Rattle.sheet.specs.Shorts.{listed, kept_as}
 
@@ -18,6 +18,6 @@ pub listed_kept : {T : Type 0} (filler : T) (xs : List T) → length xs ≤ 16 �
 listed_kept filler xs h = block_new (replicate 16 filler) xs 0 (length xs) (omega arith) (omega arith)
 
 -- each value of a map has what the map gives
-pub all_made : {X Y : Type 0} (P : Y → Type 0) (f : X → Y) → ((x : X) → P (f x)) → (xs : List X) → All P (map f xs)
+pub all_made : {X Y : Type 0} (P : Y → Type 0) (f : X → Y) → ((x : X) → P (f x)) → (xs : List X) → AllByRecursion P (map f xs)
 all_made P f h [] = tt
 all_made P f h (x ∷ xs) = (h x, all_made P f h xs)

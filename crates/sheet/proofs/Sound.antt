@@ -3,7 +3,7 @@
 -- Assumes nothing.
 use Rattle.std.proofs.Common.{◌≡◌, ℕ, ◌+◌, ◌-◌, ◌<◌, ◌≤◌, Bool, true, false, not, ◌&&◌, leb, ◌≢◌, List, [], ◌∷◌, map, length, get_or, Some, None, Option, sym, refl, ap, ◌∙◌, subst, ⊎_elim, arith, below_more}
 use lib.ListN.{length-map}
-use Rattle.std.specs.List.{AllByRecursion as All}
+use Rattle.std.specs.List.{AllByRecursion}
 use Rattle.std.specs.Option.{option_or}
 use Rattle.std.proofs.lemmas.List.{length-set, get_or-set_same, get_or-set_other}
 use Rattle.std.proofs.lemmas.List.Edits.{length-paste}
@@ -67,7 +67,7 @@ module _ {K : Type 0} (estimate : Question K → Option Figure) where
   JoinAt s i (op.Group mode sets extras c by) = Unit {0}
 
   pub record Fits (s : Sheet K) (i : ℕ) : Type 0 where
-    pub ceiling : All (Ceiling (nth s i).rows) (block s.columns (nth s i))
+    pub ceiling : AllByRecursion (Ceiling (nth s i).rows) (block s.columns (nth s i))
     pub joins : (t : JoinType) (rule : NullEquality) (l r : ℕ) (on : Short KeyPair) → (nth s i).operator ≡ op.Join t rule l r on → JoinHolds s i t rule l r on
 
   pub record Sound (s : Sheet K) : Type 0 where
@@ -126,7 +126,7 @@ module _ {K : Type 0} (estimate : Question K → Option Figure) where
     old_fits i l =
         let f = h.fits i l in
         record {
-          ceiling = subst (λ (node : Node). All (Ceiling node.rows) (block grown.columns node)) (older i l) (subst (All (Ceiling (nth s i).rows)) (sym (old_block i l)) f.ceiling);
+          ceiling = subst (λ (node : Node). AllByRecursion (Ceiling node.rows) (block grown.columns node)) (older i l) (subst (AllByRecursion (Ceiling (nth s i).rows)) (sym (old_block i l)) f.ceiling);
           joins = λ t rule a b on e.
               let k = f.joins t rule a b on (ap (λ (node : Node). node.operator) (older i l) ∙ e) in
               record {
@@ -144,10 +144,10 @@ module _ {K : Type 0} (estimate : Question K → Option Figure) where
     new_holds : Holds grown.columns (nth grown s.head.count) m
     new_holds = subst (λ (node : Node). Holds grown.columns node m) newest (record { rows = refl; bytes = refl; figure = refl; same_columns = new_block })
 
-    new_ceiling : All (Ceiling (nth grown s.head.count).rows) (block grown.columns (nth grown s.head.count))
+    new_ceiling : AllByRecursion (Ceiling (nth grown s.head.count).rows) (block grown.columns (nth grown s.head.count))
     new_ceiling =
-        subst (λ (node : Node). All (Ceiling node.rows) (block grown.columns node)) newest
-        (subst (All (Ceiling m.rows)) (sym new_block) (all_made (Ceiling m.rows) (trimmed m.rows) (trim_ceiling m.rows) m.columns))
+        subst (λ (node : Node). AllByRecursion (Ceiling node.rows) (block grown.columns node)) newest
+        (subst (AllByRecursion (Ceiling m.rows)) (sym new_block) (all_made (Ceiling m.rows) (trimmed m.rows) (trim_ceiling m.rows) m.columns))
 
     ends_more : (i : ℕ) → i < s.head.count + 1 → end (nth grown i) ≤ s.head.used + length m.columns
     ends_more =

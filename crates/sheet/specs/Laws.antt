@@ -1,6 +1,6 @@
 -- The laws of a sheet, over every run of calls. Assumes nothing.
 use Rattle.std.specs.Prelude.{◌≡◌, ℕ, ◌+◌, ◌<◌, ◌≤◌, List, ◌++◌, map, length, take, drop, Some, None, Option}
-use Rattle.std.specs.List.{AllByRecursion as All}
+use Rattle.std.specs.List.{AllByRecursion}
 use Rattle.keys.specs.declared.Relation.{Relation}
 use Rattle.stats.specs.declared.exactness.Precision.{Precision}
 use Rattle.stats.specs.declared.columns.ColumnStatistics.{ColumnStatistics}
@@ -119,7 +119,7 @@ pub record Laws {K : Type 0} (estimate : Question K → Option Figure) (s : Shee
   pub children : (n : ℕ) (t : JoinType) (rule : NullEquality) (l r : ℕ) (pairs : List KeyPair) → Joins s n t rule l r pairs → Before s l r n
   -- in every column of a standing node with known rows, nulls and distincts
   -- together are at most those rows
-  pub ceiling : (n : ℕ) → Standing s n → All (Ceiling (node_at s n).rows) (block s.columns (node_at s n))
+  pub ceiling : (n : ℕ) → Standing s n → AllByRecursion (Ceiling (node_at s n).rows) (block s.columns (node_at s n))
   -- a join holds just the figure that the estimator has for its question
   pub figures : (n : ℕ) (t : JoinType) (rule : NullEquality) (l r : ℕ) (pairs : List KeyPair) → Joins s n t rule l r pairs → AsksEstimator t → (node_at s n).figure ≡ estimate (join_question t rule pairs (table_at s l) (table_at s r))
   -- a semi and an anti join of the same children by the same keys
