@@ -15,13 +15,13 @@ use Rattle.sheet.specs.Outcomes.{Outcome, Keeps}
 use Rattle.sheets.specs.declared.Sheet.{Sheet}
 use Rattle.sheets.specs.Owned.{held}
 
-module _ {K E : Type 0} (s : Sheet K E) (nodes : List Node) (columns : List (ColumnStatistics K)) (lent-nodes : nodes ≡ vec_items s.nodes) (lent-columns : columns ≡ vec_items s.columns) where
+module _ {K E A : Type 0} (s : Sheet K E A) (nodes : List Node) (columns : List (ColumnStatistics K)) (lent-nodes : nodes ≡ vec_items s.nodes) (lent-columns : columns ≡ vec_items s.columns) where
   pub before : lent.sheet_of s.head nodes columns ≡ held s
   before = λ i. lent.sheet_of s.head (lent-nodes i) (lent-columns i)
 
   -- the memory that a call has written is put back
   module _ (head' : Head) (nodes' : List Node) (columns' : List (ColumnStatistics K)) (as-many-nodes : length nodes' ≡ vec_len s.nodes) (as-many-columns : length columns' ≡ vec_len s.columns) where
-    abbrev pub put_back : Sheet K E
+    abbrev pub put_back : Sheet K E A
     put_back = record { head = head'; nodes = with_items s.nodes nodes'; columns = with_items s.columns columns'; estimator = s.estimator }
 
     after : lent.sheet_of head' nodes' columns' ≡ held put_back
@@ -37,7 +37,7 @@ module _ {K E : Type 0} (s : Sheet K E) (nodes : List Node) (columns : List (Col
 
   -- a call that writes no memory
   module _ (relation : K → K → Relation) (estimate : Question K → Option Figure) (head' : Head) where
-    abbrev pub new_head : Sheet K E
+    abbrev pub new_head : Sheet K E A
     new_head = record { head = head'; nodes = s.nodes; columns = s.columns; estimator = s.estimator }
 
     kept : lent.sheet_of head' nodes columns ≡ held new_head

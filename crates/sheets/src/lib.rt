@@ -12,7 +12,7 @@ use keys::Key;
 use questions::Estimator;
 use sheet::{BLANK, Grouping, Head, Join, Node, NodeView, Operator, Refusal};
 use stats::{ColumnStatistics, Precision};
-use std::alloc::{AllocError, Global};
+use std::alloc::{AllocError, Allocator};
 
 /// What node memory holds before a node is put there.
 const UNUSED: Node = Node {
@@ -27,26 +27,26 @@ const UNUSED: Node = Node {
 /// A sheet with memory for a stated number of nodes and of columns. Its numbers
 /// and refusals are those of the calls of `Head`.
 #[derive(Drop)]
-pub struct Sheet<K, E> {
+pub struct Sheet<K, E, A: Allocator> {
     head: Head,
-    nodes: Vec<Node>,
-    columns: Vec<ColumnStatistics<K>>,
+    nodes: Vec<Node, A>,
+    columns: Vec<ColumnStatistics<K>, A>,
     estimator: E,
 }
 
-impl<K: Key, E: Estimator<K> + Copy> Sheet<K, E> {
+impl<K: Key, E: Estimator<K> + Copy, A: Allocator + Copy> Sheet<K, E, A> {
     /// A blank sheet.
     pub fn new(
-        alloc: Global,
+        heap: A,
         nodes: usize,
         columns: usize,
         estimator: E,
-    ) -> Result<Sheet<K, E>, AllocError>
+    ) -> Result<Sheet<K, E, A>, AllocError>
         ensures { IfOk result (λ s. Fresh nodes columns estimator s) }
     {
-        let mut node_memory = Vec::new(alloc);
+        let mut node_memory = Vec::new(heap);
         node_memory.resize(nodes, UNUSED)?;
-        let mut column_memory = Vec::new(alloc);
+        let mut column_memory = Vec::new(heap);
         column_memory.resize(columns, ColumnStatistics::unknown())?;
         Ok(Sheet {
             head: BLANK,

@@ -13,7 +13,7 @@ use stats::{ColumnStatistics, Precision};
 use std::alloc::Global;
 use std::io;
 
-type Report = Sheet<Whole, Chain<Widest, Product>>;
+type Report = Sheet<Whole, Chain<Widest, Product>, Global>;
 
 const NONE: Precision<u64> = Precision::Absent;
 
