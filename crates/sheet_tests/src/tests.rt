@@ -221,12 +221,13 @@ fn a_join_holds_what_its_mirror_holds(rt: HostRuntime) {
         Precision::Inexact(37),
         Precision::Inexact(500),
     );
-    assert_eq!(rt; desk.columns[3], AMOUNT.to_inexact());
-    assert_eq!(rt; desk.columns[4], payer);
-    assert_eq!(rt; desk.columns[5], MEMBER.to_inexact());
-    assert_eq!(rt; desk.columns[6], desk.columns[5]);
-    assert_eq!(rt; desk.columns[7], desk.columns[3]);
-    assert_eq!(rt; desk.columns[8], desk.columns[4]);
+    let columns = desk.columns;
+    assert_eq!(rt; columns[3], AMOUNT.to_inexact());
+    assert_eq!(rt; columns[4], payer);
+    assert_eq!(rt; columns[5], MEMBER.to_inexact());
+    assert_eq!(rt; columns[6], columns[5]);
+    assert_eq!(rt; columns[7], columns[3]);
+    assert_eq!(rt; columns[8], columns[4]);
 }
 
 #[test]
@@ -242,19 +243,20 @@ fn an_outer_and_a_semi_join_have_mirrors_too(rt: HostRuntime) {
         desk.join(&Widest, JoinType::RightSemi, 2, 1, &[PAIR]),
         Ok(6)
     );
-    assert_eq!(rt; desk.nodes[2].rows, Precision::Inexact(100));
-    assert_eq!(rt; desk.nodes[3].rows, Precision::Inexact(100));
-    assert_eq!(rt; desk.nodes[2].figure, Some(Figure::Inexact(100)));
-    assert_eq!(rt; desk.nodes[3].figure, Some(Figure::Inexact(100)));
-    assert_eq!(rt; desk.columns[3], PAYER.to_inexact());
-    assert_eq!(rt; desk.columns[7], PAYER.to_inexact());
-    assert_eq!(rt; desk.columns[6], desk.columns[5]);
-    assert_eq!(rt; desk.columns[8], desk.columns[4]);
-    assert_eq!(rt; desk.nodes[5].rows, desk.nodes[4].rows);
-    assert_eq!(rt; desk.nodes[5].bytes, desk.nodes[4].bytes);
-    assert_eq!(rt; desk.nodes[5].figure, desk.nodes[4].figure);
-    assert_eq!(rt; desk.columns[11], desk.columns[9]);
-    assert_eq!(rt; desk.columns[12], desk.columns[10]);
+    let (nodes, columns) = (desk.nodes, desk.columns);
+    assert_eq!(rt; nodes[2].rows, Precision::Inexact(100));
+    assert_eq!(rt; nodes[3].rows, Precision::Inexact(100));
+    assert_eq!(rt; nodes[2].figure, Some(Figure::Inexact(100)));
+    assert_eq!(rt; nodes[3].figure, Some(Figure::Inexact(100)));
+    assert_eq!(rt; columns[3], PAYER.to_inexact());
+    assert_eq!(rt; columns[7], PAYER.to_inexact());
+    assert_eq!(rt; columns[6], columns[5]);
+    assert_eq!(rt; columns[8], columns[4]);
+    assert_eq!(rt; nodes[5].rows, nodes[4].rows);
+    assert_eq!(rt; nodes[5].bytes, nodes[4].bytes);
+    assert_eq!(rt; nodes[5].figure, nodes[4].figure);
+    assert_eq!(rt; columns[11], columns[9]);
+    assert_eq!(rt; columns[12], columns[10]);
 }
 
 #[test]
