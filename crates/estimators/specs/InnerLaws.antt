@@ -10,7 +10,7 @@ use Rattle.stats.specs.Precisions.{inexact, both, at_most}
 use Rattle.stats.specs.Limits.{max_count}
 use Rattle.stats.specs.Columns.{unknown_column, lawful, within_limits, sound}
 use Rattle.stats.specs.Distincts.{max_distinct}
-use Rattle.stats.specs.Every.{every}
+use Rattle.std.specs.List.{list_all}
 use Rattle.questions.specs.declared.types.JoinSide.TheVariants.{Left, Right}
 use Rattle.questions.specs.declared.types.KeySide.{KeySide}
 use Rattle.questions.specs.declared.types.KeySide.TheVariants.{Column, Expression}
@@ -28,10 +28,10 @@ use Rattle.estimators.specs.MirroredKeys.{keys_mirrored}
 use Rattle.estimators.specs.DisjointLaws.{LawfulPair, disjoint_swap}
 
 -- what every element passes, one read at any place passes
-every_at : {A : Type 0} (test : A → Bool) (xs : List A) (i : ℕ) (d : A) → every test xs ≡ true → test d ≡ true → test (slice_index_or xs i d) ≡ true
+every_at : {A : Type 0} (test : A → Bool) (xs : List A) (i : ℕ) (d : A) → list_all test xs ≡ true → test d ≡ true → test (slice_index_or xs i d) ≡ true
 every_at test [] i d h e = e
-every_at test (x ∷ xs) zero d h e = (and_parts (test x) (every test xs) h).0
-every_at test (x ∷ xs) (suc i) d h e = every_at test xs i d (and_parts (test x) (every test xs) h).1 e
+every_at test (x ∷ xs) zero d h e = (and_parts (test x) (list_all test xs) h).0
+every_at test (x ∷ xs) (suc i) d h e = every_at test xs i d (and_parts (test x) (list_all test xs) h).1 e
 
 module _ {K : Type 0} (relation : K → K → Relation) where
   -- ---- what an answerable question has
@@ -42,7 +42,7 @@ module _ {K : Type 0} (relation : K → K → Relation) where
   pub sound_of : (q : Question K) → answerable relation q ≡ true → Sound q
   sound_of q h =
       let few = nat_le (length q.pairs) max_pairs in
-      let inside = every (pair_inside (length q.left.columns) (length q.right.columns)) q.pairs in
+      let inside = list_all (pair_inside (length q.left.columns) (length q.right.columns)) q.pairs in
       let l = input_sound relation q.left in
       let r = input_sound relation q.right in
       let c = and_parts l r (and_parts inside (l && r) (and_parts few (inside && (l && r)) h).1).1 in
@@ -51,11 +51,11 @@ module _ {K : Type 0} (relation : K → K → Relation) where
   column_lawful : (i : Input K) (n : ℕ) → input_sound relation i ≡ true → lawful relation (slice_index_or i.columns n unknown_column) ≡ true
   column_lawful i n h =
       let c = get_or i.columns n unknown_column in
-      let all = (and_parts (at_most max_count i.rows) (every (sound relation) i.columns) h).1 in
+      let all = (and_parts (at_most max_count i.rows) (list_all (sound relation) i.columns) h).1 in
       (and_parts (lawful relation c) (within_limits c) (every_at (sound relation) i.columns n unknown_column all refl)).0
 
   pub rows_few : (i : Input K) → input_sound relation i ≡ true → at_most max_count i.rows ≡ true
-  rows_few i h = (and_parts (at_most max_count i.rows) (every (sound relation) i.columns) h).0
+  rows_few i h = (and_parts (at_most max_count i.rows) (list_all (sound relation) i.columns) h).0
 
 module _ {K : Type 0} {relation : K → K → Relation} {size : K → K → Option ℕ} (laws : Lawful relation size) where
   pair_lawful : (q : Question K) → Sound relation q → (a b : KeySide) → LawfulPair laws (columns_at q.left.columns q.right.columns a b)

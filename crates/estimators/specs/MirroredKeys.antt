@@ -5,7 +5,7 @@ use Rattle.std.proofs.Common.{ap}
 use Rattle.std.proofs.lemmas.List.{length-map}
 use Rattle.keys.specs.declared.Relation.{Relation}
 use Rattle.stats.specs.declared.columns.ColumnStatistics.{ColumnStatistics}
-use Rattle.stats.specs.Every.{every}
+use Rattle.std.specs.List.{list_all}
 use Rattle.questions.specs.declared.types.JoinSide.{JoinSide}
 use Rattle.questions.specs.declared.types.JoinSide.TheVariants.{Left, Right}
 use Rattle.questions.specs.declared.types.KeySide.{KeySide}
@@ -35,7 +35,7 @@ map_same f h g e (x ∷ xs) = λ i. e x i ∷ map_same f h g e xs i
 pub keys_mirrored : {K : Type 0} (s : JoinSide) (q : Question K) → keys_from s (mirrored q) ≡ keys_from (opposite s) q
 keys_mirrored s q = map_same (columns_from s (mirrored q)) exchanged (columns_from (opposite s) q) (columns_mirrored s q) q.pairs
 
-every_same : {A B : Type 0} (t : B → Bool) (h : A → B) (u : A → Bool) → ((x : A) → t (h x) ≡ u x) → (xs : List A) → every t (map h xs) ≡ every u xs
+every_same : {A B : Type 0} (t : B → Bool) (h : A → B) (u : A → Bool) → ((x : A) → t (h x) ≡ u x) → (xs : List A) → list_all t (map h xs) ≡ list_all u xs
 every_same t h u e [] = refl
 every_same t h u e (x ∷ xs) = λ i. e x i && every_same t h u e xs i
 

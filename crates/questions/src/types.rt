@@ -1,6 +1,6 @@
 //! Join types, null rules and keys.
 ghost use Rattle.std.specs.Prelude.{◌≡◌};
-ghost use Rattle.stats.specs.Every.{every};
+ghost use Rattle.std.specs.List.{list_all};
 ghost use Rattle.questions.specs.Types.{type_number, mirror, opposite, exchanged, key_inside, pair_inside};
 
 /// The most key pairs of a join, and keys of a grouping.
@@ -121,7 +121,7 @@ impl KeyPair {
 
 /// Whether the keys of all pairs are inside tables so wide.
 pub fn are_pairs_inside(left: usize, right: usize, on: &[KeyPair]) -> bool
-    ensures { result ≡ every (pair_inside left right) on.now }
+    ensures { result ≡ list_all (pair_inside left right) on.now }
 {
     for pair in on {
         if !pair.is_inside(left, right) {

@@ -6,7 +6,7 @@ use Rattle.keys.specs.declared.Relation.{Relation}
 use Rattle.keys.specs.NoValue.{no_value}
 use Rattle.stats.specs.Precisions.{at_most}
 use Rattle.stats.specs.Limits.{max_count, max_node_bytes}
-use Rattle.stats.specs.Every.{every}
+use Rattle.std.specs.List.{list_all}
 use Rattle.sheet.specs.declared.Node.{Node}
 use Rattle.sheet.specs.declared.refusals.Refusal.{Refusal}
 use Rattle.sheet.specs.declared.refusals.Refusal.TheVariants as refusal
@@ -63,17 +63,17 @@ node_room s h = grind (arith, nat_tests)
 
 module _ {K : Type 0} (relation : K → K → Relation) (s : Sheet K) (cs : List ℕ) (counts inside : Bool) (w : ℕ) where
   abbrev fits : Bool
-  fits = leb (s.head.used + w) (length s.columns) && every (λ n. block_inside s (node_at s n)) cs
+  fits = leb (s.head.used + w) (length s.columns) && list_all (λ n. block_inside s (node_at s n)) cs
 
   record All6 : Type 0 where
     pub room : Room s counts inside w
-    pub fit : every (fit_child relation s) cs ≡ true
-    pub blocks : every (λ n. block_inside s (node_at s n)) cs ≡ true
+    pub fit : list_all (fit_child relation s) cs ≡ true
+    pub blocks : list_all (λ n. block_inside s (node_at s n)) cs ≡ true
 
-  all_6 : Ok tt ≡ checked (causes (not (no_node_memory s)) (every (fit_child relation s) cs) counts inside (leb w max_width) fits) → All6
+  all_6 : Ok tt ≡ checked (causes (not (no_node_memory s)) (list_all (fit_child relation s) cs) counts inside (leb w max_width) fits) → All6
   all_6 h =
-      let x = six_passed (not (no_node_memory s)) (every (fit_child relation s) cs) counts inside (leb w max_width) fits h in
-      let p = and_parts (leb (s.head.used + w) (length s.columns)) (every (λ n. block_inside s (node_at s n)) cs) x.memory in
+      let x = six_passed (not (no_node_memory s)) (list_all (fit_child relation s) cs) counts inside (leb w max_width) fits h in
+      let p = and_parts (leb (s.head.used + w) (length s.columns)) (list_all (λ n. block_inside s (node_at s n)) cs) x.memory in
       record {
         room = record { room = node_room s x.node; space = leb-true (s.head.used + w) (length s.columns) p.0; narrow = leb-true w 64 x.width; few = x.count; keys = x.keys };
         fit = x.fit;
@@ -107,11 +107,11 @@ module _ {K : Type 0} (relation : K → K → Relation) (s : Sheet K) where
     pub left_readable : (node : Node) → node ≡ node_at s l → Readable s node
     left_readable node is =
         let a = all_6 relation s (l ∷ r ∷ []) counts inside w h in
-        readable l node is (omega (arith, a.room.space)) (and_parts (fit_child relation s l) (every (fit_child relation s) (r ∷ [])) a.fit).0 (and_parts (block_inside s (node_at s l)) (every (λ n. block_inside s (node_at s n)) (r ∷ [])) a.blocks).0
+        readable l node is (omega (arith, a.room.space)) (and_parts (fit_child relation s l) (list_all (fit_child relation s) (r ∷ [])) a.fit).0 (and_parts (block_inside s (node_at s l)) (list_all (λ n. block_inside s (node_at s n)) (r ∷ [])) a.blocks).0
 
     pub right_readable : (node : Node) → node ≡ node_at s r → Readable s node
     right_readable node is =
         let a = all_6 relation s (l ∷ r ∷ []) counts inside w h in
-        let f = (and_parts (fit_child relation s l) (every (fit_child relation s) (r ∷ [])) a.fit).1 in
-        let b = (and_parts (block_inside s (node_at s l)) (every (λ n. block_inside s (node_at s n)) (r ∷ [])) a.blocks).1 in
+        let f = (and_parts (fit_child relation s l) (list_all (fit_child relation s) (r ∷ [])) a.fit).1 in
+        let b = (and_parts (block_inside s (node_at s l)) (list_all (λ n. block_inside s (node_at s n)) (r ∷ [])) a.blocks).1 in
         readable r node is (omega (arith, a.room.space)) (and_parts (fit_child relation s r) true f).0 (and_parts (block_inside s (node_at s r)) true b).0

@@ -8,7 +8,7 @@ use Rattle.keys.specs.declared.Relation.{Relation}
 use Rattle.stats.specs.declared.exactness.Precision.{Precision}
 use Rattle.stats.specs.declared.columns.ColumnStatistics.{ColumnStatistics}
 use Rattle.stats.specs.Columns.{unknown_column}
-use Rattle.stats.specs.Every.{every}
+use Rattle.std.specs.List.{list_all}
 use Rattle.stats.specs.Trim.{trimmed}
 use Rattle.questions.specs.declared.types.KeySide.{KeySide}
 use Rattle.questions.specs.Types.{max_pairs, key_inside}
@@ -47,15 +47,15 @@ module _ {K : Type 0} (rows : Precision ℕ) (o : Option ℕ) (extras : ℕ) (ke
   groups_none e = sym (ap (λ x. map (trimmed rows) (grouped_by x extras keys t).columns) e ∙ unknowns_trimmed K rows (length keys + extras))
 
 module _ {K : Type 0} (s : Sheet K) (mode : AggregateMode) (sets extras child : ℕ) (keys : List KeySide) (from : Node) (is : from ≡ node_at s child) where
-  pub group_early : (relation : K → K → Relation) → checked (one_child relation s child (leb (length keys) max_pairs) (every (key_inside from.width) keys) (length keys + extras)) ≡ checked (one_child relation s child (leb (length keys) max_pairs) (every (key_inside (node_at s child).width) keys) (length keys + extras))
-  group_early relation = ap (λ (n : Node). checked (one_child relation s child (leb (length keys) max_pairs) (every (key_inside n.width) keys) (length keys + extras))) is
+  pub group_early : (relation : K → K → Relation) → checked (one_child relation s child (leb (length keys) max_pairs) (list_all (key_inside from.width) keys) (length keys + extras)) ≡ checked (one_child relation s child (leb (length keys) max_pairs) (list_all (key_inside (node_at s child).width) keys) (length keys + extras))
+  group_early relation = ap (λ (n : Node). checked (one_child relation s child (leb (length keys) max_pairs) (list_all (key_inside n.width) keys) (length keys + extras))) is
 
-  module _ (relation : K → K → Relation) (check : Ok tt ≡ checked (one_child relation s child (leb (length keys) max_pairs) (every (key_inside from.width) keys) (length keys + extras))) where
-    pub group_room : Room s (leb (length keys) max_pairs) (every (key_inside from.width) keys) (length keys + extras)
-    group_room = one_room relation s child (leb (length keys) max_pairs) (every (key_inside from.width) keys) (length keys + extras) check
+  module _ (relation : K → K → Relation) (check : Ok tt ≡ checked (one_child relation s child (leb (length keys) max_pairs) (list_all (key_inside from.width) keys) (length keys + extras))) where
+    pub group_room : Room s (leb (length keys) max_pairs) (list_all (key_inside from.width) keys) (length keys + extras)
+    group_room = one_room relation s child (leb (length keys) max_pairs) (list_all (key_inside from.width) keys) (length keys + extras) check
 
     pub group_child : Readable s from
-    group_child = one_readable relation s child (leb (length keys) max_pairs) (every (key_inside from.width) keys) (length keys + extras) check from is
+    group_child = one_readable relation s child (leb (length keys) max_pairs) (list_all (key_inside from.width) keys) (length keys + extras) check from is
 
   abbrev makes : Made K
   makes = grouped mode sets extras keys (table_at s child)

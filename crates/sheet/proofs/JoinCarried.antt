@@ -4,7 +4,7 @@ use Rattle.std.proofs.Common.{◌≡◌, ℕ, leb, List, map, length, Some, None
 use lib.Seq.{paste}
 use Rattle.keys.specs.declared.Relation.{Relation}
 use Rattle.stats.specs.Precisions.{known}
-use Rattle.stats.specs.Every.{every}
+use Rattle.std.specs.List.{list_all}
 use Rattle.stats.specs.Trim.{trimmed}
 use Rattle.questions.specs.declared.types.JoinType.{JoinType}
 use Rattle.questions.specs.declared.types.JoinType.TheVariants as type
@@ -54,18 +54,18 @@ held_figure type.LeftMark rule pairs f l r = marked_by_figure (known l.rows) l
 held_figure type.RightMark rule pairs f l r = marked_by_figure (known r.rows) r
 
 module _ {K : Type 0} (estimate : Question K → Option Figure) (s : Sheet K) (t : JoinType) (rule : NullEquality) (l r : ℕ) (pairs : List KeyPair) (left right : Node) (is-left : left ≡ node_at s l) (is_right : right ≡ node_at s r) where
-  pub join_early : (relation : K → K → Relation) → checked (two_children relation s l r (leb (length pairs) max_pairs) (every (pair_inside left.width right.width) pairs) (join_width t left.width right.width)) ≡ checked (two_children relation s l r (leb (length pairs) max_pairs) (every (pair_inside (node_at s l).width (node_at s r).width) pairs) (join_width t (node_at s l).width (node_at s r).width))
-  join_early relation = λ i. checked (two_children relation s l r (leb (length pairs) max_pairs) (every (pair_inside (is-left i).width (is_right i).width) pairs) (join_width t (is-left i).width (is_right i).width))
+  pub join_early : (relation : K → K → Relation) → checked (two_children relation s l r (leb (length pairs) max_pairs) (list_all (pair_inside left.width right.width) pairs) (join_width t left.width right.width)) ≡ checked (two_children relation s l r (leb (length pairs) max_pairs) (list_all (pair_inside (node_at s l).width (node_at s r).width) pairs) (join_width t (node_at s l).width (node_at s r).width))
+  join_early relation = λ i. checked (two_children relation s l r (leb (length pairs) max_pairs) (list_all (pair_inside (is-left i).width (is_right i).width) pairs) (join_width t (is-left i).width (is_right i).width))
 
-  module _ (relation : K → K → Relation) (check : Ok tt ≡ checked (two_children relation s l r (leb (length pairs) max_pairs) (every (pair_inside left.width right.width) pairs) (join_width t left.width right.width))) where
-    pub join_room : Room s (leb (length pairs) max_pairs) (every (pair_inside left.width right.width) pairs) (join_width t left.width right.width)
-    join_room = two_room relation s l r (leb (length pairs) max_pairs) (every (pair_inside left.width right.width) pairs) (join_width t left.width right.width) check
+  module _ (relation : K → K → Relation) (check : Ok tt ≡ checked (two_children relation s l r (leb (length pairs) max_pairs) (list_all (pair_inside left.width right.width) pairs) (join_width t left.width right.width))) where
+    pub join_room : Room s (leb (length pairs) max_pairs) (list_all (pair_inside left.width right.width) pairs) (join_width t left.width right.width)
+    join_room = two_room relation s l r (leb (length pairs) max_pairs) (list_all (pair_inside left.width right.width) pairs) (join_width t left.width right.width) check
 
     pub join_left : Readable s left
-    join_left = left_readable relation s l r (leb (length pairs) max_pairs) (every (pair_inside left.width right.width) pairs) (join_width t left.width right.width) check left is-left
+    join_left = left_readable relation s l r (leb (length pairs) max_pairs) (list_all (pair_inside left.width right.width) pairs) (join_width t left.width right.width) check left is-left
 
     pub join_right : Readable s right
-    join_right = right_readable relation s l r (leb (length pairs) max_pairs) (every (pair_inside left.width right.width) pairs) (join_width t left.width right.width) check right is_right
+    join_right = right_readable relation s l r (leb (length pairs) max_pairs) (list_all (pair_inside left.width right.width) pairs) (join_width t left.width right.width) check right is_right
 
   abbrev makes : Made K
   makes = joined estimate t rule pairs (table_at s l) (table_at s r)

@@ -12,7 +12,7 @@ use Rattle.std.proofs.lemmas.Bool.Decides.{nat_tests}
 use Rattle.keys.specs.declared.Relation.{Relation}
 use Rattle.keys.specs.NoValue.{no_value}
 use Rattle.stats.specs.declared.columns.ColumnStatistics.{ColumnStatistics}
-use Rattle.stats.specs.Every.{every}
+use Rattle.std.specs.List.{list_all}
 use Rattle.stats.specs.Trim.{trimmed, Ceiling}
 use Rattle.stats.proofs.Trims.{trim_ceiling}
 use Rattle.questions.specs.declared.types.JoinType.{JoinType}
@@ -190,11 +190,11 @@ module _ {K : Type 0} (estimate : Question K → Option Figure) where
   -- ---- an order that is accepted
   pub record Accepted (relation : K → K → Relation) (s : Sheet K) (o : Order K) : Type 0 where
     pub room : s.head.count < length s.nodes
-    pub fit : every (fit_child relation s) (children o) ≡ true
+    pub fit : list_all (fit_child relation s) (children o) ≡ true
     pub counts : count_fits o ≡ true
     pub space : s.head.used + length (made estimate s o).columns ≤ length s.columns
     pub wide : length (made estimate s o).columns ≡ width_of s o
-    pub blocks : every (λ n. block_inside s (node_at s n)) (children o) ≡ true
+    pub blocks : list_all (λ n. block_inside s (node_at s n)) (children o) ≡ true
 
   unless_none : (b : Bool) (r : Refusal) (n : Option Refusal) → unless b r n ≡ None → (b ≡ true) × (n ≡ None)
   unless_none true r n e = (refl, e)
@@ -207,7 +207,7 @@ module _ {K : Type 0} (estimate : Question K → Option Figure) where
   pub accepted : (relation : K → K → Relation) (s : Sheet K) (o : Order K) → order_refusal relation estimate s o ≡ None → Accepted relation s o
   accepted relation s o e =
       let a = unless_none (not (no_node_memory s)) refusal.NodeMemory _ (first_none (early_refusal relation s o) _ e) in
-      let b = unless_none (every (fit_child relation s) (children o)) refusal.Child _ a.1 in
+      let b = unless_none (list_all (fit_child relation s) (children o)) refusal.Child _ a.1 in
       let c = unless_none (count_fits o) refusal.Count _ b.1 in
       let d = unless_none (keys_inside s o) refusal.KeyIndex _ c.1 in
       let w = unless_none (width_fits s o) refusal.Width _ d.1 in
@@ -218,7 +218,7 @@ module _ {K : Type 0} (estimate : Question K → Option Figure) where
         counts = c.0;
         space = made_fits estimate s o f.0;
         wide = made_wide estimate s o f.0;
-        blocks = (and_parts (leb (s.head.used + width_of s o) (length s.columns)) (every (λ n. block_inside s (node_at s n)) (children o)) f.0).1;
+        blocks = (and_parts (leb (s.head.used + width_of s o) (length s.columns)) (list_all (λ n. block_inside s (node_at s n)) (children o)) f.0).1;
       }
 
   child_stands : (relation : K → K → Relation) (s : Sheet K) (n : ℕ) → fit_child relation s n ≡ true → (1 ≤ n) × (n ≤ s.head.count)
@@ -227,9 +227,9 @@ module _ {K : Type 0} (estimate : Question K → Option Figure) where
       let b = and_parts (leb 1 n) (leb n s.head.count) a in
       (leb-true 1 n b.0, leb-true n s.head.count b.1)
 
-  both_stand : (relation : K → K → Relation) (s : Sheet K) (l r : ℕ) → every (fit_child relation s) (l ∷ r ∷ []) ≡ true → ((1 ≤ l) × (l ≤ s.head.count)) × ((1 ≤ r) × (r ≤ s.head.count))
+  both_stand : (relation : K → K → Relation) (s : Sheet K) (l r : ℕ) → list_all (fit_child relation s) (l ∷ r ∷ []) ≡ true → ((1 ≤ l) × (l ≤ s.head.count)) × ((1 ≤ r) × (r ≤ s.head.count))
   both_stand relation s l r e =
-      let a = and_parts (fit_child relation s l) (every (fit_child relation s) (r ∷ [])) e in
+      let a = and_parts (fit_child relation s l) (list_all (fit_child relation s) (r ∷ [])) e in
       let b = and_parts (fit_child relation s r) true a.1 in
       (child_stands relation s l a.0, child_stands relation s r b.0)
 

@@ -9,7 +9,7 @@ use Rattle.stats.specs.declared.exactness.Precision.TheVariants.{Exact}
 use Rattle.stats.specs.Precisions.{total}
 use Rattle.stats.specs.Bytes.{rescaled_bytes}
 use Rattle.stats.specs.Columns.{unknown_column}
-use Rattle.stats.specs.Every.{every}
+use Rattle.std.specs.List.{list_all}
 use Rattle.stats.specs.Trim.{trimmed}
 use Rattle.sheet.specs.declared.operators.Operator.{Operator}
 use Rattle.sheet.specs.Sheets.{Sheet, Table, node_at, table_at, no_node}
@@ -59,8 +59,8 @@ module _ {K : Type 0} (relation : K → K → Relation) (s : Sheet K) (cs : List
   pub union_fits : Ok tt ≡ checked (early_refusal relation s (union cs)) → (w : ℕ) → w ≡ width_of_first s.nodes cs → UnionFits w
   union_fits h w first =
       let e = first ∙ first_is s cs in
-      let x = six_passed (not (no_node_memory s)) (every (fit_child relation s) cs) (leb 1 (length cs) && leb (length cs) max_children) true (every (λ c. eqb (node_at s c).width (union_width s cs)) cs && leb (union_width s cs) max_width) (columns_fit s (union cs)) h in
-      let p = and_parts (leb (s.head.used + union_width s cs) (length s.columns)) (every (λ n. block_inside s (node_at s n)) cs) x.memory in
+      let x = six_passed (not (no_node_memory s)) (list_all (fit_child relation s) cs) (leb 1 (length cs) && leb (length cs) max_children) true (list_all (λ c. eqb (node_at s c).width (union_width s cs)) cs && leb (union_width s cs) max_width) (columns_fit s (union cs)) h in
+      let p = and_parts (leb (s.head.used + union_width s cs) (length s.columns)) (list_all (λ n. block_inside s (node_at s n)) cs) x.memory in
       let q = leb-true (s.head.used + union_width s cs) (length s.columns) p.0 in
       record {
         room = node_room s x.node;

@@ -5,7 +5,7 @@ use Rattle.std.proofs.lemmas.Bool.{and_parts, leb-true}
 use Rattle.stats.specs.declared.columns.ColumnStatistics.{ColumnStatistics}
 use Rattle.stats.specs.Precisions.{known}
 use Rattle.stats.specs.Columns.{unknown_column, column_inexact}
-use Rattle.stats.specs.Every.{every}
+use Rattle.std.specs.List.{list_all}
 use Rattle.questions.specs.declared.types.JoinType.{JoinType}
 use Rattle.questions.specs.declared.types.JoinType.TheVariants as type
 use Rattle.questions.specs.declared.types.JoinSide.TheVariants.{Left, Right}
@@ -71,16 +71,16 @@ module _ {K : Type 0} (s : Sheet K) (l : s.head.used ≤ length s.columns) where
   pub table_length : (n : ℕ) → block_inside s (node_at s n) ≡ true → length (table_at s n).columns ≡ (node_at s n).width
   table_length n h = block_length s (node_at s n) (leb-true ((node_at s n).place + (node_at s n).width) s.head.used h) l
 
-  one_inside : (n : ℕ) → every (λ m. block_inside s (node_at s m)) (n ∷ []) ≡ true → length (table_at s n).columns ≡ (node_at s n).width
+  one_inside : (n : ℕ) → list_all (λ m. block_inside s (node_at s m)) (n ∷ []) ≡ true → length (table_at s n).columns ≡ (node_at s n).width
   one_inside n h = table_length n (and_parts (block_inside s (node_at s n)) true h).0
 
-  first_inside : (n : ℕ) (ns : List ℕ) → every (λ m. block_inside s (node_at s m)) (n ∷ ns) ≡ true → length (table_at s n).columns ≡ (node_at s n).width
-  first_inside n ns h = table_length n (and_parts (block_inside s (node_at s n)) (every (λ m. block_inside s (node_at s m)) ns) h).0
+  first_inside : (n : ℕ) (ns : List ℕ) → list_all (λ m. block_inside s (node_at s m)) (n ∷ ns) ≡ true → length (table_at s n).columns ≡ (node_at s n).width
+  first_inside n ns h = table_length n (and_parts (block_inside s (node_at s n)) (list_all (λ m. block_inside s (node_at s m)) ns) h).0
 
-  second_inside : (n m : ℕ) → every (λ k. block_inside s (node_at s k)) (n ∷ m ∷ []) ≡ true → length (table_at s m).columns ≡ (node_at s m).width
-  second_inside n m h = one_inside m (and_parts (block_inside s (node_at s n)) (every (λ k. block_inside s (node_at s k)) (m ∷ [])) h).1
+  second_inside : (n m : ℕ) → list_all (λ k. block_inside s (node_at s k)) (n ∷ m ∷ []) ≡ true → length (table_at s m).columns ≡ (node_at s m).width
+  second_inside n m h = one_inside m (and_parts (block_inside s (node_at s n)) (list_all (λ k. block_inside s (node_at s k)) (m ∷ [])) h).1
 
-  made_width : (estimate : Question K → Option Figure) (o : Order K) → every (λ n. block_inside s (node_at s n)) (children o) ≡ true → length (made estimate s o).columns ≡ width_of s o
+  made_width : (estimate : Question K → Option Figure) (o : Order K) → list_all (λ n. block_inside s (node_at s n)) (children o) ≡ true → length (made estimate s o).columns ≡ width_of s o
   made_width estimate (lay rows bytes columns) h = refl
   made_width estimate (join t rule a b pairs) h =
       joined_length t rule pairs _ (table_at s a) (table_at s b) ∙ (λ i. join_width t (first_inside a (b ∷ []) h i) (second_inside a b h i))
@@ -93,8 +93,8 @@ module _ {K : Type 0} (s : Sheet K) (l : s.head.used ≤ length s.columns) where
 
 -- the new block is as wide as asked for, and fits the column memory
 module _ {K : Type 0} (estimate : Question K → Option Figure) (s : Sheet K) (o : Order K) (h : columns_fit s o ≡ true) where
-  parts : (leb (s.head.used + width_of s o) (length s.columns) ≡ true) × (every (λ n. block_inside s (node_at s n)) (children o) ≡ true)
-  parts = and_parts (leb (s.head.used + width_of s o) (length s.columns)) (every (λ n. block_inside s (node_at s n)) (children o)) h
+  parts : (leb (s.head.used + width_of s o) (length s.columns) ≡ true) × (list_all (λ n. block_inside s (node_at s n)) (children o) ≡ true)
+  parts = and_parts (leb (s.head.used + width_of s o) (length s.columns)) (list_all (λ n. block_inside s (node_at s n)) (children o)) h
 
   room : s.head.used + width_of s o ≤ length s.columns
   room = leb-true (s.head.used + width_of s o) (length s.columns) parts.0

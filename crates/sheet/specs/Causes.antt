@@ -8,7 +8,7 @@ use Rattle.stats.specs.declared.columns.ColumnStatistics.{ColumnStatistics}
 use Rattle.stats.specs.Precisions.{at_most}
 use Rattle.stats.specs.Limits.{max_count, max_node_bytes}
 use Rattle.stats.specs.Columns.{sound}
-use Rattle.stats.specs.Every.{every}
+use Rattle.std.specs.List.{list_all}
 use Rattle.questions.specs.declared.types.JoinType.{JoinType}
 use Rattle.questions.specs.declared.types.JoinType.TheVariants as type
 use Rattle.questions.specs.declared.figures.Figure.{Figure}
@@ -55,7 +55,7 @@ in_limits node = at_most max_count node.rows && (at_most max_node_bytes node.byt
 module _ {K : Type 0} (relation : K → K → Relation) where
   -- columns are looked at only where they can be read
   abbrev pub columns_sound : Sheet K → Node → Bool
-  columns_sound s node = short_columns s || (not (block_inside s node) || every (sound relation) (block s.columns node))
+  columns_sound s node = short_columns s || (not (block_inside s node) || list_all (sound relation) (block s.columns node))
 
   abbrev pub fit_child : Sheet K → ℕ → Bool
   fit_child s n = stands s n && (in_limits (node_at s n) && columns_sound s (node_at s n))
@@ -72,11 +72,11 @@ count_fits (group mode sets extras c keys) = nat_le (length keys) max_pairs
 -- ---- 4: a key index not below its child's width
 abbrev pub keys_inside : {K : Type 0} → Sheet K → Order K → Bool
 keys_inside s (lay rows bytes columns) = true
-keys_inside s (join t rule l r pairs) = every (pair_inside (node_at s l).width (node_at s r).width) pairs
+keys_inside s (join t rule l r pairs) = list_all (pair_inside (node_at s l).width (node_at s r).width) pairs
 keys_inside s (cross l r) = true
 keys_inside s (limit c skip fetch) = true
 keys_inside s (union cs) = true
-keys_inside s (group mode sets extras c keys) = every (key_inside (node_at s c).width) keys
+keys_inside s (group mode sets extras c keys) = list_all (key_inside (node_at s c).width) keys
 
 -- ---- 5: the width of the new node
 abbrev pub join_width : JoinType → ℕ → ℕ → ℕ
@@ -115,7 +115,7 @@ same_widths s (lay rows bytes columns) = true
 same_widths s (join t rule l r pairs) = true
 same_widths s (cross l r) = true
 same_widths s (limit c skip fetch) = true
-same_widths s (union cs) = every (λ c. nat_eq (node_at s c).width (union_width s cs)) cs
+same_widths s (union cs) = list_all (λ c. nat_eq (node_at s c).width (union_width s cs)) cs
 same_widths s (group mode sets extras c keys) = true
 
 abbrev pub width_fits : {K : Type 0} → Sheet K → Order K → Bool
@@ -123,7 +123,7 @@ width_fits s o = same_widths s o && nat_le (width_of s o) max_width
 
 -- ---- 6: room for the new block, and every child's block inside the used part
 abbrev pub columns_fit : {K : Type 0} → Sheet K → Order K → Bool
-columns_fit s o = nat_le (s.head.used + width_of s o) (length s.columns) && every (λ n. block_inside s (node_at s n)) (children o)
+columns_fit s o = nat_le (s.head.used + width_of s o) (length s.columns) && list_all (λ n. block_inside s (node_at s n)) (children o)
 
 -- ---- 7 and 8: what the order makes
 abbrev pub made : {K : Type 0} → (Question K → Option Figure) → Sheet K → Order K → Made K
@@ -158,7 +158,7 @@ unless fine r next = cond fine next (Some r)
 abbrev pub early_refusal : {K : Type 0} → (K → K → Relation) → Sheet K → Order K → Option Refusal
 early_refusal relation s o =
     unless (not (no_node_memory s)) refusal.NodeMemory
-    (unless (every (fit_child relation s) (children o)) refusal.Child
+    (unless (list_all (fit_child relation s) (children o)) refusal.Child
     (unless (count_fits o) refusal.Count
     (unless (keys_inside s o) refusal.KeyIndex
     (unless (width_fits s o) refusal.Width
@@ -169,20 +169,20 @@ early_refusal relation s o =
 abbrev pub one_child : {K : Type 0} → (K → K → Relation) → Sheet K → ℕ → Bool → Bool → ℕ → Option Refusal
 one_child relation s c counts inside width =
     unless (not (no_node_memory s)) refusal.NodeMemory
-    (unless (every (fit_child relation s) (c ∷ [])) refusal.Child
+    (unless (list_all (fit_child relation s) (c ∷ [])) refusal.Child
     (unless counts refusal.Count
     (unless inside refusal.KeyIndex
     (unless (nat_le width max_width) refusal.Width
-    (unless (nat_le (s.head.used + width) (length s.columns) && every (λ n. block_inside s (node_at s n)) (c ∷ [])) refusal.ColumnMemory None)))))
+    (unless (nat_le (s.head.used + width) (length s.columns) && list_all (λ n. block_inside s (node_at s n)) (c ∷ [])) refusal.ColumnMemory None)))))
 
 abbrev pub two_children : {K : Type 0} → (K → K → Relation) → Sheet K → ℕ → ℕ → Bool → Bool → ℕ → Option Refusal
 two_children relation s l r counts inside width =
     unless (not (no_node_memory s)) refusal.NodeMemory
-    (unless (every (fit_child relation s) (l ∷ r ∷ [])) refusal.Child
+    (unless (list_all (fit_child relation s) (l ∷ r ∷ [])) refusal.Child
     (unless counts refusal.Count
     (unless inside refusal.KeyIndex
     (unless (nat_le width max_width) refusal.Width
-    (unless (nat_le (s.head.used + width) (length s.columns) && every (λ n. block_inside s (node_at s n)) (l ∷ r ∷ [])) refusal.ColumnMemory None)))))
+    (unless (nat_le (s.head.used + width) (length s.columns) && list_all (λ n. block_inside s (node_at s n)) (l ∷ r ∷ [])) refusal.ColumnMemory None)))))
 
 -- 7 and 8, from what the order makes
 abbrev pub sizes : Precision ℕ → Precision ℕ → Option Refusal

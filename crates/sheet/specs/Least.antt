@@ -3,7 +3,7 @@ use Rattle.std.specs.Prelude.{◌≡◌, ℕ, ◌≤◌, Bool, true, false, not,
 use Rattle.keys.specs.declared.Relation.{Relation}
 use Rattle.stats.specs.Precisions.{at_most}
 use Rattle.stats.specs.Limits.{max_count, max_node_bytes}
-use Rattle.stats.specs.Every.{every}
+use Rattle.std.specs.List.{list_all}
 use Rattle.questions.specs.declared.figures.Figure.{Figure}
 use Rattle.questions.specs.Questions.{Question}
 use Rattle.sheet.specs.declared.refusals.Refusal.{Refusal}
@@ -21,7 +21,7 @@ other_than i None = true
 -- nothing asks for this refusal of an order
 abbrev pub order_clear : {K : Type 0} → (K → K → Relation) → (Question K → Option Figure) → Sheet K → Order K → Refusal → Bool
 order_clear relation estimate s o NodeMemory = not (no_node_memory s)
-order_clear relation estimate s o Child = every (fit_child relation s) (children o)
+order_clear relation estimate s o Child = list_all (fit_child relation s) (children o)
 order_clear relation estimate s o Count = count_fits o
 order_clear relation estimate s o KeyIndex = keys_inside s o
 order_clear relation estimate s o Width = width_fits s o

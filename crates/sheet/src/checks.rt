@@ -4,7 +4,7 @@ ghost use Rattle.sheet.specs.declared.Node.{Node};
 ghost use Rattle.sheet.specs.declared.refusals.Refusal.TheVariants as refusal;
 ghost use Rattle.stats.specs.Precisions.{at_most};
 ghost use Rattle.stats.specs.Limits.{max_count, max_node_bytes};
-ghost use Rattle.stats.specs.Every.{every};
+ghost use Rattle.std.specs.List.{list_all};
 ghost use Rattle.sheet.specs.Sheets.{sheet_of, no_node, node_at};
 ghost use Rattle.sheet.specs.Calls.{lay};
 ghost use Rattle.sheet.specs.Causes.{unless, sizes, one_child, two_children, in_limits, columns_sound, fit_child, block_inside, first_unsound, order_refusal, cut_inside, cut_refusal, max_nodes, max_width};
@@ -216,7 +216,7 @@ fn is_one_fit<K: Key>(
     columns: &[ColumnStatistics<K>],
     child: usize,
 ) -> bool
-    ensures { result ≡ every (fit_child K.relation (sheet_of head.now nodes.now columns.now)) (child ∷ []) }
+    ensures { result ≡ list_all (fit_child K.relation (sheet_of head.now nodes.now columns.now)) (child ∷ []) }
 {
     is_fit_child(head, nodes, columns, child)
 }
@@ -229,7 +229,7 @@ fn are_two_fit<K: Key>(
     left: usize,
     right: usize,
 ) -> bool
-    ensures { result ≡ every (fit_child K.relation (sheet_of head.now nodes.now columns.now)) (left ∷ right ∷ []) }
+    ensures { result ≡ list_all (fit_child K.relation (sheet_of head.now nodes.now columns.now)) (left ∷ right ∷ []) }
 {
     is_fit_child(head, nodes, columns, left) && is_one_fit(head, nodes, columns, right)
 }

@@ -2,7 +2,7 @@
 ghost use Rattle.std.specs.Prelude.{◌≡◌, ◌+◌, ◌≤◌, map, length, Some, None, fold, nat_le};
 ghost use Rattle.std.proofs.Math.Seq.{paste};
 ghost use Rattle.stats.specs.Precisions.{known};
-ghost use Rattle.stats.specs.Every.{every};
+ghost use Rattle.std.specs.List.{list_all};
 ghost use Rattle.stats.specs.Trim.{trimmed};
 ghost use Rattle.questions.specs.Types.{max_pairs, key_inside};
 ghost use Rattle.sheet.specs.declared.operators.Operator.TheVariants as op;
@@ -48,7 +48,7 @@ fn is_whole(mode: AggregateMode) -> bool
 
 /// Whether all keys are inside a table so wide.
 fn are_keys_inside(width: usize, by: &[KeySide]) -> bool
-    ensures { result ≡ every (key_inside width) by.now }
+    ensures { result ≡ list_all (key_inside width) by.now }
 {
     for key in by {
         if !key.is_inside(width) {
@@ -156,7 +156,7 @@ fn check_group<K: Key>(
     from: &Node,
     grouping: &Grouping<'_>,
 ) -> Result<(), Refusal>
-    ensures { result ≡ checked (one_child K.relation (sheet_of head.now nodes.now columns.now) grouping.now.child (nat_le (length grouping.now.by.now) max_pairs) (every (key_inside from.now.width) grouping.now.by.now) (length grouping.now.by.now + grouping.now.extras)) }
+    ensures { result ≡ checked (one_child K.relation (sheet_of head.now nodes.now columns.now) grouping.now.child (nat_le (length grouping.now.by.now) max_pairs) (list_all (key_inside from.now.width) grouping.now.by.now) (length grouping.now.by.now + grouping.now.extras)) }
 {
     let counts = grouping.by.len() <= MAX_PAIRS;
     let inside = are_keys_inside(from.width, grouping.by);

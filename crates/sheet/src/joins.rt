@@ -1,7 +1,7 @@
 //! Joins by keys.
 ghost use Rattle.std.specs.Prelude.{◌≡◌, ℕ, ◌+◌, ◌≤◌, Bool, List, ◌++◌, map, length, nat_le};
 ghost use Rattle.std.proofs.Math.Seq.{paste};
-ghost use Rattle.stats.specs.Every.{every};
+ghost use Rattle.std.specs.List.{list_all};
 ghost use Rattle.stats.specs.Trim.{trimmed};
 ghost use Rattle.questions.specs.declared.types.NullEquality.{NullEquality};
 ghost use Rattle.questions.specs.Types.{max_pairs, pair_inside};
@@ -58,7 +58,7 @@ fn check_join<K: Key>(
     right: &Node,
     join: &Join<'_>,
 ) -> Result<(), Refusal>
-    ensures { result ≡ checked (two_children K.relation (sheet_of head.now nodes.now columns.now) join.now.left join.now.right (nat_le (length join.now.on.now) max_pairs) (every (pair_inside left.now.width right.now.width) join.now.on.now) (join_width join.now.join_type left.now.width right.now.width)) }
+    ensures { result ≡ checked (two_children K.relation (sheet_of head.now nodes.now columns.now) join.now.left join.now.right (nat_le (length join.now.on.now) max_pairs) (list_all (pair_inside left.now.width right.now.width) join.now.on.now) (join_width join.now.join_type left.now.width right.now.width)) }
 {
     let counts = join.on.len() <= MAX_PAIRS;
     let inside = are_pairs_inside(left.width, right.width, join.on);

@@ -3,7 +3,7 @@ ghost use Rattle.std.specs.Prelude.{◌≡◌, ◌+◌, ◌-◌, ◌≤◌, ◌&
 ghost use Rattle.stats.specs.declared.exactness.Precision.TheVariants.{Exact};
 ghost use Rattle.stats.specs.Precisions.{total};
 ghost use Rattle.stats.specs.Bytes.{rescaled_bytes};
-ghost use Rattle.stats.specs.Every.{every};
+ghost use Rattle.std.specs.List.{list_all};
 ghost use Rattle.sheet.specs.declared.operators.Operator.TheVariants as op;
 ghost use Rattle.sheet.specs.Shorts.{kept_as};
 ghost use Rattle.sheet.specs.Sheets.{sheet_of, no_node};
@@ -42,7 +42,7 @@ fn are_all_fit<K: Key>(
     columns: &[ColumnStatistics<K>],
     children: &[usize],
 ) -> bool
-    ensures { result ≡ every (fit_child K.relation (sheet_of head.now nodes.now columns.now)) children.now }
+    ensures { result ≡ list_all (fit_child K.relation (sheet_of head.now nodes.now columns.now)) children.now }
 {
     for child in children {
         if !is_fit_child(head, nodes, columns, *child) {
@@ -54,7 +54,7 @@ fn are_all_fit<K: Key>(
 
 /// Whether all children are so wide.
 fn are_all_wide(nodes: &[Node], children: &[usize], width: usize) -> bool
-    ensures { result ≡ every (λ c. nat_eq (slice_index_or nodes.now (c - 1) no_node).width width) children.now }
+    ensures { result ≡ list_all (λ c. nat_eq (slice_index_or nodes.now (c - 1) no_node).width width) children.now }
 {
     for child in children {
         if node_of(nodes, *child).width != width {
@@ -66,7 +66,7 @@ fn are_all_wide(nodes: &[Node], children: &[usize], width: usize) -> bool
 
 /// Whether the blocks of all children lie in the used part.
 fn are_all_inside(used: usize, nodes: &[Node], children: &[usize]) -> bool
-    ensures { result ≡ every (λ c. leb ((slice_index_or nodes.now (c - 1) no_node).place + (slice_index_or nodes.now (c - 1) no_node).width) used) children.now }
+    ensures { result ≡ list_all (λ c. leb ((slice_index_or nodes.now (c - 1) no_node).place + (slice_index_or nodes.now (c - 1) no_node).width) used) children.now }
 {
     for child in children {
         if !is_block_inside(used, &node_of(nodes, *child)) {
@@ -100,7 +100,7 @@ fn is_child_count(children: &[usize]) -> bool
 
 /// Whether all children are so wide, and not too wide.
 fn are_narrow(nodes: &[Node], children: &[usize], width: usize) -> bool
-    ensures { result ≡ (every (λ c. nat_eq (slice_index_or nodes.now (c - 1) no_node).width width) children.now && nat_le width max_width) }
+    ensures { result ≡ (list_all (λ c. nat_eq (slice_index_or nodes.now (c - 1) no_node).width width) children.now && nat_le width max_width) }
 {
     are_all_wide(nodes, children, width) && width <= MAX_WIDTH
 }
@@ -114,7 +114,7 @@ fn fits_union<K: Key>(
     children: &[usize],
     width: usize,
 ) -> bool
-    ensures { result ≡ (nat_le (head.now.used + width) (length columns.now) && every (λ c. leb ((slice_index_or nodes.now (c - 1) no_node).place + (slice_index_or nodes.now (c - 1) no_node).width) head.now.used) children.now) }
+    ensures { result ≡ (nat_le (head.now.used + width) (length columns.now) && list_all (λ c. leb ((slice_index_or nodes.now (c - 1) no_node).place + (slice_index_or nodes.now (c - 1) no_node).width) head.now.used) children.now) }
 {
     has_column_room(head, columns, width, 0) && are_all_inside(head.used, nodes, children)
 }

@@ -1,4 +1,3 @@
-pub mod Every
 pub mod Precisions
 pub mod Limits
 pub mod Columns

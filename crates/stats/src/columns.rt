@@ -1,7 +1,7 @@
 //! What is known of a column's values.
 ghost use Rattle.std.specs.Prelude.{◌≡◌};
 ghost use Rattle.stats.specs.Columns.{unknown_column, column_inexact, lawful, within_limits, sound};
-ghost use Rattle.stats.specs.Every.{every};
+ghost use Rattle.std.specs.List.{list_all};
 ghost use Rattle.stats.specs.Trim.{trimmed, Trims};
 
 use crate::Precision;
@@ -96,7 +96,7 @@ impl<K: Key> ColumnStatistics<K> {
 
 /// Whether every column is sound.
 pub fn all_sound<K: Key>(columns: &[ColumnStatistics<K>]) -> bool
-    ensures { result ≡ every (sound K.relation) columns.now }
+    ensures { result ≡ list_all (sound K.relation) columns.now }
 {
     for column in columns {
         if !column.is_sound() {

@@ -1,6 +1,6 @@
 use Rattle.std.proofs.Common.{sym, ap, ◌∙◌}
 use Rattle.std.proofs.lemmas.List.{drop_all, get_or_default}
-use Rattle.stats.specs.Every.{every}
+use Rattle.std.specs.List.{list_all}
 use Rattle.stats.proofs.EveryMore.{every_passed, every_failed}
 use Rattle.questions.specs.Types.{pair_inside}
 use Rattle.questions.proofs.types.are_pairs_inside.Goals as goal
@@ -17,4 +17,4 @@ loop-pair-preserved c =
 
 pub returns : goal.returns
 returns c =
-    ap (every (pair_inside c.args.left c.args.right)) (sym (drop_all _ _ c.loop-pair-test.false)) ∙ c.loop-pair.invariant
+    ap (list_all (pair_inside c.args.left c.args.right)) (sym (drop_all _ _ c.loop-pair-test.false)) ∙ c.loop-pair.invariant

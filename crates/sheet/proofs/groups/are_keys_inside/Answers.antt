@@ -1,6 +1,6 @@
 use Rattle.std.proofs.Common.{sym, ap, ◌∙◌}
 use Rattle.std.proofs.lemmas.List.{drop_all, get_or_default}
-use Rattle.stats.specs.Every.{every}
+use Rattle.std.specs.List.{list_all}
 use Rattle.stats.proofs.EveryMore.{every_passed, every_failed}
 use Rattle.questions.specs.Types.{key_inside}
 use Rattle.sheet.proofs.groups.are_keys_inside.Goals as goal
@@ -17,4 +17,4 @@ loop-key-preserved c =
 
 pub returns : goal.returns
 returns c =
-    ap (every (key_inside c.args.width)) (sym (drop_all _ _ c.loop-key-test.false)) ∙ c.loop-key.invariant
+    ap (list_all (key_inside c.args.width)) (sym (drop_all _ _ c.loop-key-test.false)) ∙ c.loop-key.invariant

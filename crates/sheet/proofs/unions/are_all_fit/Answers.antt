@@ -1,6 +1,6 @@
 use Rattle.std.proofs.Common.{sym, ap, ◌∙◌}
 use Rattle.std.proofs.lemmas.List.{drop_all, get_or_default}
-use Rattle.stats.specs.Every.{every}
+use Rattle.std.specs.List.{list_all}
 use Rattle.stats.proofs.EveryMore.{every_passed, every_failed}
 use Rattle.sheet.specs.Sheets.{sheet_of}
 use Rattle.sheet.specs.Causes.{fit_child}
@@ -21,4 +21,4 @@ loop-child-preserved g c =
 pub returns : goal.returns
 returns g c =
     let test = fit_child g.K.Key.relation (sheet_of c.args.head.now c.args.nodes.now c.args.columns.now) in
-    ap (every test) (sym (drop_all _ _ c.loop-child-test.false)) ∙ c.loop-child.invariant
+    ap (list_all test) (sym (drop_all _ _ c.loop-child-test.false)) ∙ c.loop-child.invariant

@@ -1,7 +1,7 @@
 use Rattle.std.proofs.Common.{ℕ, ◌-◌, eqb, get_or, sym, ap, ◌∙◌}
 use Rattle.std.proofs.lemmas.List.{drop_all, get_or_default}
 use Rattle.std.proofs.lemmas.Bool.{eq-eqb, ne_eqb}
-use Rattle.stats.specs.Every.{every}
+use Rattle.std.specs.List.{list_all}
 use Rattle.stats.proofs.EveryMore.{every_passed, every_failed}
 use Rattle.sheet.specs.declared.Node.{Node}
 use Rattle.sheet.specs.Sheets.{no_node}
@@ -22,4 +22,4 @@ loop-child-preserved c =
 pub returns : goal.returns
 returns c =
     let test = λ (n : ℕ). eqb (get_or c.args.nodes.now (n - 1) no_node).width c.args.width in
-    ap (every test) (sym (drop_all _ _ c.loop-child-test.false)) ∙ c.loop-child.invariant
+    ap (list_all test) (sym (drop_all _ _ c.loop-child-test.false)) ∙ c.loop-child.invariant

@@ -1,6 +1,6 @@
 use Rattle.std.proofs.Common.{sym, ap, ◌∙◌}
 use Rattle.std.proofs.lemmas.List.{drop_all}
-use Rattle.stats.specs.Every.{every}
+use Rattle.std.specs.List.{list_all}
 use Rattle.stats.specs.Columns.{sound}
 use Rattle.stats.proofs.EveryMore.{every_passed, every_failed}
 use Rattle.stats.proofs.columns.all_sound.Goals as goal
@@ -15,4 +15,4 @@ loop-column-preserved g c =
 
 pub returns : goal.returns
 returns g c =
-    ap (every (sound g.K.Key.relation)) (sym (drop_all _ _ c.loop-column-test.false)) ∙ c.loop-column.invariant
+    ap (list_all (sound g.K.Key.relation)) (sym (drop_all _ _ c.loop-column-test.false)) ∙ c.loop-column.invariant
