@@ -11,7 +11,6 @@ use Rattle.keys.specs.Relations.{turned, Related, AtOrBefore}
 use Rattle.keys.specs.Laws.{Lawful, Counts}
 use Rattle.keys.specs.Texts.{text_relation}
 use Rattle.keys.specs.Kinds.{whole_relation, whole_size, mixed_relation, mixed_size}
-use Rattle.keys.specs.NoValue.{no_value}
 use Rattle.keys.specs.ByteOrder.{word_relation, as_words}
 use Rattle.keys.specs.Orders.{numbers, words, held, uncounted}
 
@@ -60,15 +59,15 @@ before (Text s) (Text t) (Text u) h k = texts.before s t u h k
 
 sized : (x y : Mixed) (n : ℕ) → mixed_size x y ≡ Some n → AtOrBefore (mixed_relation x y)
 sized (Number a) (Number b) n h = numbers.sized a b n h
-sized (Number a) (Text t) n h = no_value h
-sized (Text s) (Number b) n h = no_value h
-sized (Text s) (Text t) n h = no_value h
+sized (Number a) (Text t) n h = cc
+sized (Text s) (Number b) n h = cc
+sized (Text s) (Text t) n h = cc
 
 fits : (x y : Mixed) (n : ℕ) → mixed_size x y ≡ Some n → n < 2 ^ 64
 fits (Number a) (Number b) n h = numbers.fits a b n h
-fits (Number a) (Text t) n h = no_value h
-fits (Text s) (Number b) n h = no_value h
-fits (Text s) (Text t) n h = no_value h
+fits (Number a) (Text t) n h = cc
+fits (Text s) (Number b) n h = cc
+fits (Text s) (Text t) n h = cc
 
 -- the values between two numbers are numbers
 counts : (x y : Mixed) (n : ℕ) → mixed_size x y ≡ Some n → Counts mixed_relation x y n
@@ -84,9 +83,9 @@ counts (Number a) (Number b) n h =
         | Text y ↦ λ p q. elim p [ ]
       ];
     }
-counts (Number a) (Text t) n h = no_value h
-counts (Text s) (Number b) n h = no_value h
-counts (Text s) (Text t) n h = no_value h
+counts (Number a) (Text t) n h = cc
+counts (Text s) (Number b) n h = cc
+counts (Text s) (Text t) n h = cc
 
 pub mixed : Lawful mixed_relation mixed_size
 mixed = record { same = same; equal = equal; turns = turns; families = families; before = before; sized = sized; fits = fits; counts = counts }

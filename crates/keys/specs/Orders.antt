@@ -7,7 +7,6 @@ use Rattle.keys.specs.declared.Relation.{Relation}
 use Rattle.keys.specs.Relations.{AtOrBefore}
 use Rattle.keys.specs.Laws.{Lawful, Counts}
 use Rattle.keys.specs.Numbers.{number_relation, number_size}
-use Rattle.keys.specs.NoValue.{no_value}
 use Rattle.keys.specs.ByteOrder.{word_relation}
 
 abbrev pub uncounted : {K : Type 0} → K → K → Option ℕ
@@ -63,9 +62,9 @@ words = record {
   turns = λ x y. grind (arith, nat_tests);
   families = λ x y z h k. grind (arith, nat_tests);
   before = λ x y z h k. grind (arith, nat_tests);
-  sized = λ low high n h. no_value h;
-  fits = λ low high n h. no_value h;
-  counts = λ low high n h. no_value h;
+  sized = λ low high n h. cc;
+  fits = λ low high n h. cc;
+  counts = λ low high n h. cc;
 }
 
 -- a kind whose values hold those of another, one to one, has its laws

@@ -1,4 +1,6 @@
 -- How two values can stand to each other. Assumes nothing.
+use Rattle.std.specs.declared.cmp.Ordering.{Ordering}
+use Rattle.std.specs.declared.cmp.Ordering.TheVariants as order
 use Rattle.keys.specs.declared.Relation.{Relation}
 use Rattle.keys.specs.declared.Relation.TheVariants.{Before, Equal, After, Unrelated}
 
@@ -8,6 +10,12 @@ turned Before = After
 turned Equal = Equal
 turned After = Before
 turned Unrelated = Unrelated
+
+-- what an order says of two values of one family
+abbrev pub relation_of : Ordering → Relation
+relation_of order.Less = Before
+relation_of order.Equal = Equal
+relation_of order.Greater = After
 
 -- the two are of one family
 abbrev pub Related : Relation → Type 0

@@ -2,12 +2,11 @@
 ghost use Rattle.keys.specs.Kinds.{whole_relation, whole_size, mixed_relation, mixed_size};
 ghost use Rattle.keys.specs.KindLaws.{whole, mixed};
 
-use crate::numbers::{compare_numbers, count_numbers};
-use crate::texts::compare_texts;
+use crate::numbers::count_numbers;
 use crate::{Key, Relation, ShortText};
 
 /// A signed number of 64 bits; ranges are counted.
-#[derive(Clone, Copy, PartialEq, Eq, Debug)]
+#[derive(Clone, Copy, PartialEq, Eq, PartialOrd, Ord, Debug)]
 pub struct Whole(pub i64);
 
 impl Key for Whole {
@@ -18,7 +17,7 @@ impl Key for Whole {
     ghost lawful = { whole };
 
     fn compare(self, other: Whole) -> Relation {
-        compare_numbers(self.0, other.0)
+        Relation::from(self.cmp(&other))
     }
 
     fn range_size(low: Whole, high: Whole) -> Option<u64> {
@@ -43,8 +42,8 @@ impl Key for Mixed {
 
     fn compare(self, other: Mixed) -> Relation {
         match (self, other) {
-            (Mixed::Number(a), Mixed::Number(b)) => compare_numbers(a, b),
-            (Mixed::Text(a), Mixed::Text(b)) => compare_texts(a, b),
+            (Mixed::Number(a), Mixed::Number(b)) => Relation::from(a.cmp(&b)),
+            (Mixed::Text(a), Mixed::Text(b)) => Relation::from(a.cmp(&b)),
             _ => Relation::Unrelated,
         }
     }

@@ -4,7 +4,10 @@
 
 ghost use Rattle.std.specs.Prelude.{◌≡◌, ℕ, Option};
 ghost use Rattle.keys.specs.declared.Relation.{Relation};
+ghost use Rattle.keys.specs.Relations.{relation_of};
 ghost use Rattle.keys.specs.Laws.{Lawful};
+
+use std::cmp::Ordering;
 
 mod kinds;
 mod numbers;
@@ -14,6 +17,8 @@ pub use kinds::{Mixed, Whole};
 pub use texts::ShortText;
 
 /// How a value stands to another.
+// No `Option<Ordering>`: that would call two families `None`, and a derive on
+// `Mixed` would order them.
 #[derive(Clone, Copy, PartialEq, Eq, Debug)]
 pub enum Relation {
     Before,
@@ -21,6 +26,19 @@ pub enum Relation {
     After,
     /// The two are of different families.
     Unrelated,
+}
+
+/// The order of two values of one family.
+impl From<Ordering> for Relation {
+    ghost from_gives = { λ order relation. relation ≡ relation_of order };
+
+    fn from(order: Ordering) -> Relation {
+        match order {
+            Ordering::Less => Relation::Before,
+            Ordering::Equal => Relation::Equal,
+            Ordering::Greater => Relation::After,
+        }
+    }
 }
 
 /// A key kind; `Self` is one of its values.

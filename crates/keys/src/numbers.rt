@@ -1,20 +1,6 @@
-//! Signed numbers of 64 bits: their order, and the size of a range.
+//! How many signed numbers of 64 bits a range has.
 ghost use Rattle.std.specs.Prelude.{◌≡◌};
-ghost use Rattle.keys.specs.Numbers.{number_relation, number_size};
-
-use crate::Relation;
-
-pub(crate) fn compare_numbers(a: i64, b: i64) -> Relation
-    ensures { result ≡ number_relation a b }
-{
-    if a < b {
-        Relation::Before
-    } else if a == b {
-        Relation::Equal
-    } else {
-        Relation::After
-    }
-}
+ghost use Rattle.keys.specs.Numbers.{number_size};
 
 /// Both ends count. The whole span has one value more than a `u64` can say.
 pub(crate) fn count_numbers(low: i64, high: i64) -> Option<u64>

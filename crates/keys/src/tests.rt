@@ -2,7 +2,7 @@
 use super::*;
 
 fn text(bytes: [u8; 8]) -> Mixed {
-    Mixed::Text(ShortText::from_bytes(bytes))
+    Mixed::Text(ShortText::from(bytes))
 }
 
 #[test]
@@ -57,8 +57,11 @@ fn texts_compare_by_bytes(rt: HostRuntime) {
 
 #[test]
 fn texts_keep_their_bytes(rt: HostRuntime) {
-    assert_eq!(rt; ShortText::from_bytes(*b"flat 12b").bytes(), *b"flat 12b");
-    assert_eq!(rt; ShortText::from_bytes([255; 8]).bytes(), [255; 8]);
+    assert_eq!(rt;
+        <[u8; 8]>::from(ShortText::from(*b"flat 12b")),
+        *b"flat 12b"
+    );
+    assert_eq!(rt; <[u8; 8]>::from(ShortText::from([255; 8])), [255; 8]);
 }
 
 #[test]

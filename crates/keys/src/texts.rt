@@ -1,40 +1,28 @@
 //! Texts of eight bytes.
 ghost use Rattle.std.specs.Prelude.{◌≡◌};
-ghost use Rattle.keys.specs.Texts.{text_bytes, text_relation};
+ghost use Rattle.keys.specs.Texts.{text_bytes};
 
-use crate::Relation;
-
-/// A text of eight bytes, held in one word, the first byte highest.
-#[derive(Clone, Copy, PartialEq, Eq, Debug)]
+/// A text of eight bytes, held in one word, the first byte highest: words
+/// compare as their bytes do.
+#[derive(Clone, Copy, PartialEq, Eq, PartialOrd, Ord, Debug)]
 pub struct ShortText {
     word: u64,
 }
 
-impl ShortText {
-    pub fn from_bytes(bytes: [u8; 8]) -> ShortText
-        ensures { text_bytes result ≡ bytes }
-    {
+impl From<[u8; 8]> for ShortText {
+    ghost from_gives = { λ bytes text. text_bytes text ≡ bytes };
+
+    fn from(bytes: [u8; 8]) -> ShortText {
         ShortText {
             word: u64::from_be_bytes(bytes),
         }
     }
-
-    pub fn bytes(self) -> [u8; 8]
-        ensures { result ≡ text_bytes self }
-    {
-        self.word.to_be_bytes()
-    }
 }
 
-/// Words compare as their bytes do, since the first byte is the highest.
-pub(crate) fn compare_texts(a: ShortText, b: ShortText) -> Relation
-    ensures { result ≡ text_relation a b }
-{
-    if a.word < b.word {
-        Relation::Before
-    } else if a.word == b.word {
-        Relation::Equal
-    } else {
-        Relation::After
+impl From<ShortText> for [u8; 8] {
+    ghost from_gives = { λ text bytes. bytes ≡ text_bytes text };
+
+    fn from(text: ShortText) -> [u8; 8] {
+        text.word.to_be_bytes()
     }
 }

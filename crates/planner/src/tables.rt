@@ -82,7 +82,7 @@ pub fn join_rows<E: Estimator<Whole>>(
         },
     };
     match estimator.estimate(&question) {
-        Some(figure) => figure.to_precision(),
+        Some(figure) => Precision::from(figure),
         None => Precision::Absent,
     }
 }

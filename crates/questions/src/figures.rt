@@ -13,6 +13,7 @@ pub enum Figure {
 
 impl Figure {
     /// The figure that a Precision is, and none for Absent.
+    // No TryFrom: that rows are not known is no error.
     pub fn from_precision(rows: Precision<u64>) -> Option<Figure>
         ensures { result ≡ figure_of rows }
     {
@@ -23,22 +24,24 @@ impl Figure {
         }
     }
 
-    /// The figure as rows.
-    pub fn to_precision(self) -> Precision<u64>
-        ensures { result ≡ rows_of self }
-    {
-        match self {
-            Figure::Exact(count) => Precision::Exact(count),
-            Figure::Inexact(count) => Precision::Inexact(count),
-        }
-    }
-
     /// The number, exactness aside.
     pub fn amount(self) -> u64
         ensures { result ≡ amount self }
     {
         match self {
             Figure::Exact(count) | Figure::Inexact(count) => count,
+        }
+    }
+}
+
+/// The figure as rows.
+impl From<Figure> for Precision<u64> {
+    ghost from_gives = { λ figure rows. rows ≡ rows_of figure };
+
+    fn from(figure: Figure) -> Precision<u64> {
+        match figure {
+            Figure::Exact(count) => Precision::Exact(count),
+            Figure::Inexact(count) => Precision::Inexact(count),
         }
     }
 }

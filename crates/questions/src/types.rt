@@ -23,6 +23,8 @@ pub enum JoinType {
 }
 
 impl JoinType {
+    /// The type's number in the rules.
+    // No From: `u8::from` would not say which number is meant.
     pub fn number(self) -> u8
         ensures { result ≡ type_number self }
     {
@@ -75,6 +77,7 @@ pub enum NullEquality {
 
 /// One side of a key pair: a column of that side's table, by its index, or an
 /// expression, of which nothing is known.
+// No `Option<usize>`: an expression is a key too, not a missing one.
 #[derive(Clone, Copy, PartialEq, Eq, Debug)]
 pub enum KeySide {
     Column(usize),
@@ -123,10 +126,5 @@ impl KeyPair {
 pub fn are_pairs_inside(left: usize, right: usize, on: &[KeyPair]) -> bool
     ensures { result ≡ list_all (pair_inside left right) on.now }
 {
-    for pair in on {
-        if !pair.is_inside(left, right) {
-            return false;
-        }
-    }
-    true
+    on.iter().all(|pair| pair.is_inside(left, right))
 }

@@ -124,7 +124,7 @@ fn combined_rows(figure: Option<Figure>) -> Precision<u64>
     ensures { result ≡ combined_rows figure }
 {
     match figure {
-        Some(figure) => figure.to_precision().to_inexact(),
+        Some(figure) => Precision::from(figure).to_inexact(),
         None => Precision::Absent,
     }
 }

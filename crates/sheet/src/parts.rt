@@ -101,7 +101,7 @@ pub(crate) fn rows_in(figure: Option<Figure>, rows: Precision<u64>) -> Precision
     ensures { result ≡ rows_kept figure rows }
 {
     match figure {
-        Some(figure) => figure.to_precision(),
+        Some(figure) => Precision::from(figure),
         None => rows.to_inexact(),
     }
 }

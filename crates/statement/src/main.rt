@@ -103,7 +103,7 @@ fn print_node(
     let rows = node.rows.to_string(heap)?;
     let bytes = node.bytes.to_string(heap)?;
     let figure = match node.figure {
-        Some(figure) => figure.to_precision(),
+        Some(figure) => Precision::from(figure),
         None => NONE,
     };
     let figure = figure.to_string(heap)?;

@@ -1,6 +1,5 @@
 -- What is known of a Precision by its value. Assumes nothing.
 use Rattle.std.proofs.Common.{◌≡◌, ℕ, ◌≤◌, ◌⊎◌, Some, inl, inr, arith}
-use Rattle.keys.specs.NoValue.{no_value}
 use Rattle.stats.specs.declared.exactness.Precision.{Precision}
 use Rattle.stats.specs.declared.exactness.Precision.TheVariants.{Exact, Inexact, Absent}
 use Rattle.stats.specs.Precisions.{known, paired, AtMost}
@@ -12,7 +11,7 @@ Holds v p = (p ≡ Exact v) ⊎ (p ≡ Inexact v)
 pub holds : {T : Type 0} (p : Precision T) (v : T) → known p ≡ Some v → Holds v p
 holds (Exact u) v e = inl (cc)
 holds (Inexact u) v e = inr (cc)
-holds Absent v e = no_value e
+holds Absent v e = cc
 
 pub paired_holds : {S T : Type 0} (p : Precision S) (q : Precision T) (u : S) (v : T) → Holds u p → Holds v q → Holds (u, v) (paired p q)
 paired_holds p q u v (inl d) (inl e) = inl (rw (d, e))

@@ -1,53 +1,34 @@
 -- Scaling rounds a fraction up, and a part of the rows has no more than all.
 -- Assumes nothing.
-use Rattle.std.proofs.Common.{◌≡◌, ℕ, ◌+◌, ◌*◌, ◌/◌, ◌%◌, ◌^◌, ◌<◌, ◌≤◌, min, Some, refl, ap, ◌∙◌, ⊎_elim, mul-le-mul_right, mod-lt, add-mul, mul-le-mul_left, one-mul, div-add-mod', mul-one, arith}
+use Rattle.std.proofs.Common.{◌≡◌, ℕ, ◌+◌, ◌*◌, ◌^◌, ◌<◌, ◌≤◌, Some, refl, ⊎_elim, mul-le-mul_right, add-mul, mul-le-mul_left, one-mul, mul-one, arith}
 use Rattle.std.proofs.lemmas.Bool.Decides.{nat_tests}
 use Rattle.std.proofs.lemmas.Bool.{cases_lt}
-use Rattle.keys.specs.NoValue.{no_value}
+use Rattle.std.proofs.lemmas.Grind.{div_ceil_times}
 use Rattle.stats.specs.declared.exactness.Precision.{Precision}
 use Rattle.stats.specs.declared.exactness.Precision.TheVariants.{Exact, Inexact, Absent}
 use Rattle.stats.specs.Precisions.{known, AtMost}
 use Rattle.stats.specs.Scaling.{ceiling, part_of, scaled, Scales}
 
 module _ (a b : ℕ) (B : 0 < b) where
-  whole : a / b * b + a % b ≡ a
-  whole = div-add-mod' a b
+  enough : a ≤ ceiling a b * b
+  enough = (div_ceil_times a b B).0
 
-  left : a % b < b
-  left = mod-lt a B
-
-  -- the quotient rounded up, times b
-  raised_by : ceiling a b * b ≡ a / b * b + min 1 (a % b) * b
-  raised_by = add-mul (a / b) (min 1 (a % b)) b
-
-  pub enough : a ≤ ceiling a b * b
-  enough =
-      ⊎_elim
-      (λ z. let e = raised_by in let w = whole in let l = left in let o : min 1 (a % b) ≡ 1 = omega arith in let p : min 1 (a % b) * b ≡ b = ap (λ (x : ℕ). x * b) o ∙ one-mul b in omega arith)
-      (λ z. let e = raised_by in let w = whole in omega arith)
-      (cases_lt 0 (a % b))
-
-  pub least : (j : ℕ) → a ≤ j * b → ceiling a b ≤ j
+  least : (j : ℕ) → a ≤ j * b → ceiling a b ≤ j
   least j h =
       ⊎_elim
       (λ l.
-      let w = whole in
-      let up : (j + 1) * b ≡ j * b + 1 * b = add-mul j 1 b in
-      let k : j ≤ a / b = omega arith in
-      let m : j * b ≤ a / b * b = mul-le-mul_right b k in
-      ⊎_elim
-      (λ z. let f : ⊥ = omega arith in absurd f)
-      (λ z. let t : (j + 1) * b ≤ a / b * b = mul-le-mul_right b (omega arith) in let f : ⊥ = omega (arith, one-mul b) in absurd f)
-      (cases_lt 0 (a % b)))
+      let u : ceiling a b * b < a + b = (div_ceil_times a b B).1 in
+      let m : (j + 1) * b ≤ ceiling a b * b = mul-le-mul_right b (omega arith) in
+      omega (arith, add-mul j 1 b, one-mul b))
       (λ l. l)
       (cases_lt j (ceiling a b))
 
 -- a part of no more rows: at most the whole count
-pub part_fewer : (c n m : ℕ) → 0 < n → m ≤ n → ceiling (c * m) n ≤ c
+part_fewer : (c n m : ℕ) → 0 < n → m ≤ n → ceiling (c * m) n ≤ c
 part_fewer c n m N h = least (c * m) n N c (mul-le-mul_left c h)
 
 -- rounding up does not pass the number that is divided
-pub ceiling_le : (a b : ℕ) → 0 < b → ceiling a b ≤ a
+ceiling_le : (a b : ℕ) → 0 < b → ceiling a b ≤ a
 ceiling_le a b B = least a b B a (let m : a * 1 ≤ a * b = mul-le-mul_left a B in omega (arith, mul-one a))
 
 module _ (c n m : ℕ) where
@@ -63,8 +44,8 @@ module _ (c n m : ℕ) where
   part_fits : c * m < 2 ^ 64 → part_of c n m ≡ Absent → ⊥
   part_fits f e =
       ⊎_elim
-      (λ N. let l = ceiling_le (c * m) n N in let s = part_some N (omega arith) in let z : ◌≡◌ {A = ℕ} 0 1 = cc in omega arith)
-      (λ N. let s = part_none (omega arith) in let z : ◌≡◌ {A = ℕ} 0 1 = cc in omega arith)
+      (λ N. let l = ceiling_le (c * m) n N in let s = part_some N (omega arith) in cc)
+      (λ N. let s = part_none (omega arith) in cc)
       (cases_lt 0 n)
 
   part_at_most : m ≤ n → AtMost c (part_of c n m)
@@ -86,8 +67,8 @@ pub scales : (count : Precision ℕ) (n m : ℕ) → Scales count n m (scaled co
 scales (Exact c) n m = scales_one c n m (Exact c) refl
 scales (Inexact c) n m = scales_one c n m (Inexact c) refl
 scales Absent n m = record {
-  enough = λ c k e. no_value e;
-  least = λ c k j e. no_value e;
-  fits = λ c e. no_value e;
-  fewer = λ c e. no_value e;
+  enough = λ c k e. cc;
+  least = λ c k j e. cc;
+  fits = λ c e. cc;
+  fewer = λ c e. cc;
 }

@@ -1,5 +1,5 @@
 -- What the operations on a Precision answer. Assumes nothing.
-use Rattle.std.specs.Prelude.{ℕ, ◌+◌, ◌-◌, ◌^◌, ◌≤◌, min, Bool, true, cond, List, [], ◌∷◌, Some, None, Option, nat_le, nat_lt}
+use Rattle.std.specs.Prelude.{ℕ, ◌+◌, ◌-◌, ◌^◌, ◌≤◌, min, Bool, true, cond, List, [], ◌∷◌, Some, None, Option, IsSomeAnd, nat_le, nat_lt}
 use Rattle.std.specs.Fmt.{option_append}
 use Rattle.stats.specs.declared.exactness.Precision.{Precision}
 use Rattle.stats.specs.declared.exactness.Precision.TheVariants.{Exact, Inexact, Absent}
@@ -27,6 +27,23 @@ both op Absent q = Absent
 
 abbrev pub paired : {S T : Type 0} → Precision S → Precision T → Precision (S × T)
 paired = both (λ a b. (a, b))
+
+-- q is as exact as p, and R holds of p's value and what became of it: q's value,
+-- or nothing, and then q is Absent
+abbrev pub FilterMapped : {T U : Type 0} → (T → Option U → Type 0) → Precision T → Precision U → Type 0
+FilterMapped R (Exact v) (Exact w) = R v (Some w)
+FilterMapped R (Exact v) (Inexact w) = ⊥
+FilterMapped R (Exact v) Absent = R v None
+FilterMapped R (Inexact v) (Exact w) = ⊥
+FilterMapped R (Inexact v) (Inexact w) = R v (Some w)
+FilterMapped R (Inexact v) Absent = R v None
+FilterMapped R Absent (Exact w) = ⊥
+FilterMapped R Absent (Inexact w) = ⊥
+FilterMapped R Absent Absent = Unit {0}
+
+-- the same, where each value becomes one
+abbrev pub Mapped : {T U : Type 0} → (T → U → Type 0) → Precision T → Precision U → Type 0
+Mapped R p q = FilterMapped (λ v o. IsSomeAnd o (R v)) p q
 
 -- a number that passes 64 bits stops at their greatest, and is then not exact
 abbrev pub stopping : Precision ℕ → Precision ℕ

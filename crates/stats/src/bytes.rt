@@ -7,6 +7,7 @@ use floats::rescale;
 
 /// Keeps the average bytes of a row while the rows change. Where the old rows
 /// are 0, or something is Absent, the bytes stay as they are.
+#[tactic(auto, using(crate::proofs::Rescales::rescales))]
 pub fn rescale_byte_size(
     bytes: Precision<u64>,
     old_rows: Precision<u64>,

@@ -20,6 +20,7 @@ pub struct ColumnStatistics<K> {
 
 impl<K: Key> ColumnStatistics<K> {
     /// A column of which nothing is known.
+    // No derived Default: that would ask for a default of `K`.
     pub fn unknown() -> ColumnStatistics<K>
         ensures { result ≡ unknown_column }
     {
@@ -50,13 +51,9 @@ impl<K: Key> ColumnStatistics<K> {
     pub fn is_lawful(&self) -> bool
         ensures { result ≡ lawful K.relation self.now }
     {
-        match (self.min_value.get_value(), self.max_value.get_value()) {
-            (Some(low), Some(high)) => match high.compare(low) {
-                Relation::Before | Relation::Unrelated => false,
-                Relation::Equal | Relation::After => true,
-            },
-            _ => true,
-        }
+        self.max_value.zip(self.min_value).get_value().is_none_or(|(high, low)| {
+            matches!(high.compare(low), Relation::Equal | Relation::After)
+        })
     }
 
     /// Whether the present counts are at most their limits.
@@ -98,10 +95,5 @@ impl<K: Key> ColumnStatistics<K> {
 pub fn all_sound<K: Key>(columns: &[ColumnStatistics<K>]) -> bool
     ensures { result ≡ list_all (sound K.relation) columns.now }
 {
-    for column in columns {
-        if !column.is_sound() {
-            return false;
-        }
-    }
-    true
+    columns.iter().all(|column| column.is_sound())
 }

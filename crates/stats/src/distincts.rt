@@ -19,17 +19,10 @@ fn not_null_count(num_rows: Precision<u64>, null_count: Precision<u64>) -> Preci
 fn range_count<K: Key>(stats: &ColumnStatistics<K>) -> Precision<u64>
     ensures { result ≡ values_in_range K.size stats.now }
 {
-    match stats.min_value.zip(stats.max_value) {
-        Precision::Exact((low, high)) => match K::range_size(low, high) {
-            Some(count) => Precision::Exact(count),
-            None => Precision::Absent,
-        },
-        Precision::Inexact((low, high)) => match K::range_size(low, high) {
-            Some(count) => Precision::Inexact(count),
-            None => Precision::Absent,
-        },
-        Precision::Absent => Precision::Absent,
-    }
+    stats
+        .min_value
+        .zip(stats.max_value)
+        .filter_map(|(low, high)| K::range_size(low, high))
 }
 
 /// The range's count, where it is present and says more.

@@ -1,6 +1,7 @@
 //! Values together with what is known of their exactness.
 ghost use Rattle.std.specs.Prelude.{◌≡◌, ◌-◌, min, max};
-ghost use Rattle.stats.specs.Precisions.{inexact, known, both, paired, total, capped, at_most, or_zero, shown_as};
+ghost use Rattle.std.specs.Option.{ForSome};
+ghost use Rattle.stats.specs.Precisions.{inexact, known, both, paired, Mapped, FilterMapped, total, capped, at_most, or_zero, shown_as};
 
 use std::fmt;
 
@@ -46,27 +47,43 @@ impl<T: Copy> Precision<T> {
             ) => Precision::Inexact((a, b)),
         }
     }
+
+    /// What `f` makes of the value, as exact as that is.
+    pub fn map<U: Copy, F: FnOnce(T) -> U>(self, f: F) -> Precision<U>
+        requires { ForSome (known self) (F.pre f) }
+        ensures { Mapped (F.post f) self result }
+    {
+        match self {
+            Precision::Exact(value) => Precision::Exact(f(value)),
+            Precision::Inexact(value) => Precision::Inexact(f(value)),
+            Precision::Absent => Precision::Absent,
+        }
+    }
+
+    /// As `map`; Absent where `f` makes nothing of the value.
+    pub fn filter_map<U: Copy, F: FnOnce(T) -> Option<U>>(self, f: F) -> Precision<U>
+        requires { ForSome (known self) (F.pre f) }
+        ensures { FilterMapped (F.post f) self result }
+    {
+        match self.map(f) {
+            Precision::Exact(Some(value)) => Precision::Exact(value),
+            Precision::Inexact(Some(value)) => Precision::Inexact(value),
+            _ => Precision::Absent,
+        }
+    }
 }
 
 impl Precision<u64> {
     pub fn max(self, other: Precision<u64>) -> Precision<u64>
         ensures { result ≡ both max self other }
     {
-        match self.zip(other) {
-            Precision::Exact((a, b)) => Precision::Exact(a.max(b)),
-            Precision::Inexact((a, b)) => Precision::Inexact(a.max(b)),
-            Precision::Absent => Precision::Absent,
-        }
+        self.zip(other).map(|(a, b)| a.max(b))
     }
 
     pub fn min(self, other: Precision<u64>) -> Precision<u64>
         ensures { result ≡ both min self other }
     {
-        match self.zip(other) {
-            Precision::Exact((a, b)) => Precision::Exact(a.min(b)),
-            Precision::Inexact((a, b)) => Precision::Inexact(a.min(b)),
-            Precision::Absent => Precision::Absent,
-        }
+        self.zip(other).map(|(a, b)| a.min(b))
     }
 
     /// A sum that passes 64 bits stops at their greatest number and is Inexact.
@@ -74,12 +91,8 @@ impl Precision<u64> {
         ensures { result ≡ total self other }
     {
         match self.zip(other) {
-            Precision::Exact((a, b)) => match a.checked_add(b) {
-                Some(sum) => Precision::Exact(sum),
-                None => Precision::Inexact(u64::MAX),
-            },
-            Precision::Inexact((a, b)) => Precision::Inexact(a.saturating_add(b)),
-            Precision::Absent => Precision::Absent,
+            Precision::Exact((a, b)) if a.checked_add(b).is_none() => Precision::Inexact(u64::MAX),
+            sides => sides.map(|(a, b)| a.saturating_add(b)),
         }
     }
 
@@ -87,15 +100,9 @@ impl Precision<u64> {
     pub fn sub(self, other: Precision<u64>) -> Precision<u64>
         ensures { result ≡ both ◌-◌ self other }
     {
-        match self.zip(other) {
-            Precision::Exact((a, b)) => Precision::Exact(a.saturating_sub(b)),
-            Precision::Inexact((a, b)) => Precision::Inexact(a.saturating_sub(b)),
-            Precision::Absent => Precision::Absent,
-        }
+        self.zip(other).map(|(a, b)| a.saturating_sub(b))
     }
-}
 
-impl Precision<u64> {
     /// A count above `most` becomes Inexact `most`.
     pub fn capped_at(self, most: u64) -> Precision<u64>
         ensures { result ≡ capped most self }
@@ -112,20 +119,14 @@ impl Precision<u64> {
     pub fn is_at_most(self, most: u64) -> bool
         ensures { result ≡ at_most most self }
     {
-        match self {
-            Precision::Exact(count) | Precision::Inexact(count) => count <= most,
-            Precision::Absent => true,
-        }
+        self.get_value().is_none_or(|count| count <= most)
     }
 
     /// The count, an Absent one counting 0.
     pub fn or_zero(self) -> u64
         ensures { result ≡ or_zero self }
     {
-        match self {
-            Precision::Exact(count) | Precision::Inexact(count) => count,
-            Precision::Absent => 0,
-        }
+        self.get_value().unwrap_or(0)
     }
 }
 

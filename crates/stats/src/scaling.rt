@@ -15,15 +15,11 @@ pub fn scale_subset_count(
     ensures value { result ≡ scaled count input_num_rows output_num_rows }
     ensures scales { Scales count input_num_rows output_num_rows result }
 {
-    let Some(count) = count.get_value() else {
-        return Precision::Absent;
-    };
-    if input_num_rows == 0 {
-        return Precision::Inexact(0);
-    }
-    let product = count as u128 * output_num_rows as u128;
-    match u64::try_from(product.div_ceil(input_num_rows as u128)) {
-        Ok(scaled) => Precision::Inexact(scaled),
-        Err(_) => Precision::Absent,
-    }
+    count.to_inexact().filter_map(|count| {
+        if input_num_rows == 0 {
+            return Some(0);
+        }
+        let product = count as u128 * output_num_rows as u128;
+        u64::try_from(product.div_ceil(input_num_rows as u128)).ok()
+    })
 }

@@ -54,6 +54,24 @@ fn values_are_known_unless_absent(rt: HostRuntime) {
 }
 
 #[test]
+fn mapped_values_stay_as_exact(rt: HostRuntime) {
+    let seven: Precision<u64> = Precision::Exact(7);
+    let about_seven: Precision<u64> = Precision::Inexact(7);
+    assert_eq!(rt; seven.map(|count| count / 2), Precision::Exact(3));
+    assert_eq!(rt;
+        about_seven.map(|count| count > 6),
+        Precision::Inexact(true)
+    );
+    assert_eq!(rt; NONE.map(|count| count / 2), NONE);
+    assert_eq!(rt;
+        about_seven.filter_map(|count| count.checked_sub(2)),
+        Precision::Inexact(5)
+    );
+    assert_eq!(rt; seven.filter_map(|count| count.checked_sub(8)), NONE);
+    assert_eq!(rt; NONE.filter_map(|count| count.checked_sub(8)), NONE);
+}
+
+#[test]
 fn limits_are_powers_of_two(rt: HostRuntime) {
     assert_eq!(rt; MAX_COUNT, 67_108_864);
     assert_eq!(rt; MAX_COLUMN_BYTES, 1_073_741_824);
@@ -105,7 +123,7 @@ fn trim_holds_counts_under_the_rows(rt: HostRuntime) {
 
 #[test]
 fn ends_decide_whether_a_column_is_lawful(rt: HostRuntime) {
-    let text = Mixed::Text(ShortText::from_bytes(*b"payments"));
+    let text = Mixed::Text(ShortText::from(*b"payments"));
     assert!(rt; ends(Mixed::Number(3), Mixed::Number(3)).is_lawful());
     assert!(rt; !ends(Mixed::Number(4), Mixed::Number(3)).is_lawful());
     assert!(rt; !ends(Mixed::Number(3), text).is_lawful());
