@@ -1,4 +1,3 @@
-pub mod PairReads
-pub mod DisjointLoop
 pub mod Divisors
+pub mod FirstDisjoint
 pub mod InBounds

@@ -1,7 +1,9 @@
 -- The rows of an inner join do not mind which side is which. Assumes nothing.
 use Rattle.std.specs.Prelude.{◌≡◌, ℕ, zero, suc, ◌*◌, ◌/◌, max, Bool, true, ◌&&◌, List, [], ◌∷◌, map, length, get_or, fold, Option, nat_le, slice_index_or, refl}
-use Rattle.std.proofs.Common.{ap, ◌∙◌, mul_comm, arith}
+use Rattle.std.proofs.Common.{sym, ap, ◌∙◌, mul_comm}
+use Rattle.std.proofs.Math.Nat.{max_comm}
 use Rattle.std.proofs.lemmas.Bool.{and_parts}
+use Rattle.std.proofs.lemmas.List.Folds.{fold-map}
 use Rattle.keys.specs.declared.Relation.{Relation}
 use Rattle.keys.specs.Laws.{Lawful}
 use Rattle.stats.specs.declared.exactness.Precision.{Precision}
@@ -67,17 +69,14 @@ module _ {K : Type 0} {relation : K → K → Relation} {size : K → K → Opti
   disjoint_sides : (q : Question K) → Sound relation q → disjoint relation q.null_rule (keys_from Right q) ≡ disjoint relation q.null_rule (keys_from Left q)
   disjoint_sides q s = disjoint_swap laws q.null_rule (columns_from Left q) (λ p. pair_lawful q s p.left p.right) q.pairs
 
-  max_swap : (a b : ℕ) → max a b ≡ max b a
-  max_swap a b = omega arith
-
   width_swap : (l r : Precision ℕ) (k : KeyColumns K) → pair_width size r l (turned k) ≡ pair_width size l r k
-  width_swap l r k = both_swap max max_swap (max_distinct size r k.other) (max_distinct size l k.this)
+  width_swap l r k = both_swap max max_comm (max_distinct size r k.other) (max_distinct size l k.this)
 
   widest_from : {A : Type 0} (l r w : Precision ℕ) (f : A → KeyColumns K) (xs : List A) → fold (λ w k. max_present w (pair_width size r l k)) w (map (λ x. turned (f x)) xs) ≡ fold (λ w k. max_present w (pair_width size l r k)) w (map f xs)
-  widest_from l r w f [] = refl
-  widest_from l r w f (x ∷ xs) =
-      ap (λ v. fold (λ w k. max_present w (pair_width size r l k)) (max_present w v) (map (λ x. turned (f x)) xs)) (width_swap l r (f x)) ∙
-      widest_from l r (max_present w (pair_width size l r (f x))) f xs
+  widest_from l r w f xs =
+      fold-map (λ w k. max_present w (pair_width size r l k)) (λ x. turned (f x)) w xs ∙
+      (λ i. fold (λ w x. max_present w (width_swap l r (f x) i)) w xs) ∙
+      sym (fold-map (λ w k. max_present w (pair_width size l r k)) f w xs)
 
   matching_swap : (l r w : Precision ℕ) → matching r l w ≡ matching l r w
   matching_swap l r w = ap (λ p. inexact (both ◌/◌ p (nonzero w))) (both_swap ◌*◌ mul_comm r l)

@@ -1,7 +1,8 @@
 -- Product keeps the two laws. Assumes nothing.
-use Rattle.std.specs.Prelude.{◌≡◌, ℕ, ◌-◌, ◌/◌, max, List, [], ◌∷◌, map, Some, None, fold, Option, refl}
-use Rattle.std.proofs.Common.{ap, ◌∙◌, add_comm, mul_comm, arith}
+use Rattle.std.specs.Prelude.{◌≡◌, ℕ, ◌-◌, ◌/◌, max, List, map, Some, None, fold, Option, refl}
+use Rattle.std.proofs.Common.{sym, ap, ◌∙◌, add_comm, mul_comm, arith}
 use Rattle.std.proofs.lemmas.Bool.Decides.{nat_tests}
+use Rattle.std.proofs.lemmas.List.Folds.{fold-map}
 use Rattle.keys.specs.declared.Relation.{Relation}
 use Rattle.stats.specs.declared.exactness.Precision.{Precision}
 use Rattle.stats.specs.Precisions.{known}
@@ -43,16 +44,14 @@ larger_swap (Some a) None = refl
 larger_swap None (Some b) = refl
 larger_swap None None = refl
 
-divisor_from : {A K : Type 0} (p : Option ℕ) (f : A → KeyColumns K) (xs : List A) → fold (λ p k. stopping_product p (larger_distinct (known k.this.distinct_count) (known k.other.distinct_count))) p (map (λ x. turned (f x)) xs) ≡ fold (λ p k. stopping_product p (larger_distinct (known k.this.distinct_count) (known k.other.distinct_count))) p (map f xs)
-divisor_from p f [] = refl
-divisor_from p f (x ∷ xs) =
-    let a = known (f x).this.distinct_count in
-    let b = known (f x).other.distinct_count in
-    ap (λ d. fold (λ p k. stopping_product p (larger_distinct (known k.this.distinct_count) (known k.other.distinct_count))) (stopping_product p d) (map (λ x. turned (f x)) xs)) (larger_swap b a) ∙
-    divisor_from (stopping_product p (larger_distinct a b)) f xs
+divisor_turned : {A K : Type 0} (f : A → KeyColumns K) (xs : List A) → divisor (map (λ x. turned (f x)) xs) ≡ divisor (map f xs)
+divisor_turned f xs =
+    fold-map (λ p k. stopping_product p (larger_distinct (known k.this.distinct_count) (known k.other.distinct_count))) (λ x. turned (f x)) (Some 1) xs ∙
+    (λ i. fold (λ p x. stopping_product p (larger_swap (known (f x).other.distinct_count) (known (f x).this.distinct_count) i)) (Some 1) xs) ∙
+    sym (fold-map (λ p k. stopping_product p (larger_distinct (known k.this.distinct_count) (known k.other.distinct_count))) f (Some 1) xs)
 
 divisor_mirrored : {K : Type 0} (q : Question K) → divisor (keys_from Left (mirrored q)) ≡ divisor (keys_from Left q)
-divisor_mirrored q = ap divisor (keys_mirrored Left q) ∙ divisor_from (Some 1) (columns_from Left q) q.pairs
+divisor_mirrored q = ap divisor (keys_mirrored Left q) ∙ divisor_turned (columns_from Left q) q.pairs
 
 joined_swap : (l r : ℕ) (p : Option ℕ) → joined_by r l p ≡ joined_by l r p
 joined_swap l r None = mul_comm r l

@@ -1,16 +1,10 @@
 -- Operations that do not mind the order of their sides. Assumes nothing.
-use Rattle.std.specs.Prelude.{◌≡◌, ℕ, ◌+◌, Bool, true, false, ◌&&◌, is_some, ◌≢◌, refl}
+use Rattle.std.specs.Prelude.{◌≡◌, ℕ, ◌+◌, true, is_some, ◌≢◌, refl}
 use Rattle.std.proofs.Common.{ap, add_comm}
 use Rattle.stats.specs.declared.exactness.Precision.{Precision}
 use Rattle.stats.specs.declared.exactness.Precision.TheVariants.{Exact, Inexact, Absent}
 use Rattle.stats.specs.Precisions.{known, both, stopping, total}
 use Rattle.estimators.specs.Zeros.{either_zero, or_else}
-
-pub and_swap : (a b : Bool) → (a && b) ≡ (b && a)
-and_swap true true = refl
-and_swap true false = refl
-and_swap false true = refl
-and_swap false false = refl
 
 pub both_swap : {S U : Type 0} (op : S → S → U) → ((a b : S) → op a b ≡ op b a) → (p q : Precision S) → both op p q ≡ both op q p
 both_swap op s (Exact a) (Exact b) = ap Exact (s a b)

@@ -2,38 +2,16 @@
 ghost use Rattle.std.specs.Prelude.{◌≡◌};
 ghost use Rattle.questions.specs.Questions.{asked};
 ghost use Rattle.estimators.specs.KeyColumns.{keys_from};
-ghost use Rattle.estimators.specs.Zeros.{zero_of, either_zero};
 ghost use Rattle.estimators.specs.Disjoint.{low_past_high, ranges_apart, no_null_match, disjoint_pair, disjoint};
 
-use crate::pairs::{KeyColumns, key_columns};
+use crate::pairs::{KeyColumns, Side};
+use crate::zeros::{known_zero, or_else, surer_zero};
 use keys::{Key, Relation};
-use questions::{JoinQuestion, JoinSide, NullEquality};
+use questions::NullEquality;
 use stats::{ColumnStatistics, Precision};
 
-/// 0 with its exactness, where a count is known to be 0.
-pub(crate) fn known_zero(count: Precision<u64>) -> Precision<u64>
-    ensures { result ≡ zero_of count }
-{
-    match count {
-        Precision::Exact(0) => Precision::Exact(0),
-        Precision::Inexact(0) => Precision::Inexact(0),
-        _ => Precision::Absent,
-    }
-}
-
-/// The surer of two zeros.
-pub(crate) fn surer_zero(a: Precision<u64>, b: Precision<u64>) -> Precision<u64>
-    ensures { result ≡ either_zero a b }
-{
-    match (a, b) {
-        (Precision::Exact(_), _) | (_, Precision::Exact(_)) => Precision::Exact(0),
-        (Precision::Inexact(_), _) | (_, Precision::Inexact(_)) => Precision::Inexact(0),
-        (Precision::Absent, Precision::Absent) => Precision::Absent,
-    }
-}
-
 /// 0 where the low of one column is after the high of the other.
-fn is_low_past_high<K: Key>(
+fn zero_if_low_past_high<K: Key>(
     column: &ColumnStatistics<K>,
     other: &ColumnStatistics<K>,
 ) -> Precision<u64>
@@ -51,17 +29,16 @@ fn is_low_past_high<K: Key>(
 }
 
 /// 0 where the ranges of the two columns have no value in common.
-fn are_ranges_apart<K: Key>(columns: &KeyColumns<K>) -> Precision<u64>
+fn zero_if_ranges_apart<K: Key>(columns: &KeyColumns<K>) -> Precision<u64>
     ensures { result ≡ ranges_apart K.relation columns.now }
 {
-    match is_low_past_high(&columns.this, &columns.other) {
-        Precision::Absent => is_low_past_high(&columns.other, &columns.this),
-        apart => apart,
-    }
+    or_else(zero_if_low_past_high(&columns.this, &columns.other), || {
+        zero_if_low_past_high(&columns.other, &columns.this)
+    })
 }
 
 /// 0 where no null of the two columns matches another.
-fn is_no_null_matched<K: Key>(rule: NullEquality, columns: &KeyColumns<K>) -> Precision<u64>
+fn zero_if_no_null_matches<K: Key>(rule: NullEquality, columns: &KeyColumns<K>) -> Precision<u64>
     ensures { result ≡ no_null_match rule columns.now }
 {
     match rule {
@@ -74,30 +51,28 @@ fn is_no_null_matched<K: Key>(rule: NullEquality, columns: &KeyColumns<K>) -> Pr
 }
 
 /// 0 where a pair is disjoint, Exact if what shows it is.
-fn estimate_disjoint_pair<K: Key>(rule: NullEquality, columns: &KeyColumns<K>) -> Precision<u64>
+fn zero_if_disjoint<K: Key>(rule: NullEquality, columns: &KeyColumns<K>) -> Precision<u64>
     ensures { result ≡ disjoint_pair K.relation rule columns.now }
 {
-    match are_ranges_apart(columns).zip(is_no_null_matched(rule, columns)) {
+    match zero_if_ranges_apart(columns).zip(zero_if_no_null_matches(rule, columns)) {
         Precision::Exact(_) => Precision::Exact(0),
         Precision::Inexact(_) => Precision::Inexact(0),
         Precision::Absent => Precision::Absent,
     }
 }
 
-/// 0 of the first key pair that is disjoint, seen from `side`; Absent if none
-/// is.
-pub(crate) fn estimate_disjoint_inputs<K: Key>(
-    question: &JoinQuestion<'_, '_, '_, K>,
-    side: JoinSide,
-) -> Precision<u64>
-    ensures { result ≡ disjoint K.relation question.now.null_equality (keys_from side (asked question.now)) }
-{
-    for pair in question.on {
-        let columns = key_columns(question, *pair, side);
-        let apart = estimate_disjoint_pair(question.null_equality, &columns);
-        if let Precision::Exact(_) | Precision::Inexact(_) = apart {
-            return apart;
-        }
+impl<'q, K: Key> Side<'q, K> {
+    /// 0 of the first key pair that is disjoint; Absent if none is.
+    pub(crate) fn estimate_disjoint_inputs(&self) -> Precision<u64>
+        ensures { let q = asked self.now.question.now in result ≡ disjoint K.relation q.null_rule (keys_from self.now.side q) }
+    {
+        let rule = self.question.null_equality;
+        self.question
+            .on
+            .iter()
+            .map(|pair| self.columns_of(*pair))
+            .map(|columns| zero_if_disjoint(rule, &columns))
+            .find(|apart| apart.get_value().is_some())
+            .unwrap_or(Precision::Absent)
     }
-    Precision::Absent
 }

@@ -1,0 +1,41 @@
+//! Counts that are known to be 0.
+ghost use Rattle.std.specs.Prelude.{◌≡◌, is_some, IsTrue};
+ghost use Rattle.stats.specs.declared.exactness.Precision.TheVariants.{Absent};
+ghost use Rattle.stats.specs.Precisions.{known};
+ghost use Rattle.estimators.specs.Zeros.{zero_of, either_zero};
+
+use stats::Precision;
+
+/// 0 with its exactness, where a count is known to be 0.
+pub(crate) fn known_zero(count: Precision<u64>) -> Precision<u64>
+    ensures { result ≡ zero_of count }
+{
+    match count {
+        Precision::Exact(0) => Precision::Exact(0),
+        Precision::Inexact(0) => Precision::Inexact(0),
+        _ => Precision::Absent,
+    }
+}
+
+/// The surer of two zeros.
+pub(crate) fn surer_zero(a: Precision<u64>, b: Precision<u64>) -> Precision<u64>
+    ensures { result ≡ either_zero a b }
+{
+    match (a, b) {
+        (Precision::Exact(_), _) | (_, Precision::Exact(_)) => Precision::Exact(0),
+        (Precision::Inexact(_), _) | (_, Precision::Inexact(_)) => Precision::Inexact(0),
+        (Precision::Absent, Precision::Absent) => Precision::Absent,
+    }
+}
+
+/// A count that is present, or else what `next` gives.
+pub(crate) fn or_else<F: Fn() -> Precision<u64>>(count: Precision<u64>, next: F) -> Precision<u64>
+    requires { F.IsAlwaysCallable next }
+    ensures present { IsTrue (is_some (known count)) → result ≡ count }
+    ensures absent { count ≡ Absent → F.post next result }
+{
+    match count {
+        Precision::Absent => next(),
+        present => present,
+    }
+}
