@@ -1,17 +1,20 @@
--- The loop that looks for a column that is not sound. Assumes nothing.
-use Rattle.std.proofs.Common.{◌≡◌, ℕ, ◌+◌, ◌<◌, Bool, true, false, cond, List, length, get_or, drop, Some, sym, ap, ◌∙◌}
+-- The first column that is not sound, by its position. Assumes nothing.
+use Rattle.std.proofs.Common.{◌≡◌, ℕ, ◌+◌, Bool, true, false, cond, not, List, [], ◌∷◌, Some, Option, position, refl, ap, ◌∙◌}
+use Rattle.std.specs.List.{position_from}
+use Rattle.std.proofs.lemmas.Iterator.Adapters.{position_from-zero}
 use Rattle.keys.specs.declared.Relation.{Relation}
 use Rattle.stats.specs.declared.columns.ColumnStatistics.{ColumnStatistics}
 use Rattle.stats.specs.Columns.{sound}
-use Rattle.stats.proofs.EveryMore.{drop_read}
-use Rattle.sheet.specs.Causes.{unsound_from}
+use Rattle.sheet.specs.Causes.{unsound_from, first_unsound}
 
-module _ {K : Type 0} (relation : K → K → Relation) (cs : List (ColumnStatistics K)) (i : ℕ) (c : ColumnStatistics K) (h : i < length cs) (r : c ≡ get_or cs i c) where
-  next : unsound_from relation i (drop i cs) ≡ cond (sound relation c) (unsound_from relation (i + 1) (drop (i + 1) cs)) (Some i)
-  next = ap (unsound_from relation i) (drop_read cs i c h r)
+turned : (b : Bool) (found next : Option ℕ) → cond (not b) found next ≡ cond b next found
+turned true found next = refl
+turned false found next = refl
 
-  pub unsound_found : sound relation c ≡ false → unsound_from relation i (drop i cs) ≡ Some i
-  unsound_found e = next ∙ ap (λ (b : Bool). cond b (unsound_from relation (i + 1) (drop (i + 1) cs)) (Some i)) e
+module _ {K : Type 0} (relation : K → K → Relation) where
+  from_index : (i : ℕ) (cs : List (ColumnStatistics K)) → position_from (λ c. not (sound relation c)) i cs ≡ unsound_from relation i cs
+  from_index i [] = refl
+  from_index i (c ∷ cs) = turned (sound relation c) (Some i) _ ∙ ap (λ o. cond (sound relation c) o (Some i)) (from_index (i + 1) cs)
 
-  pub unsound_passed : sound relation c ≡ true → unsound_from relation (i + 1) (drop (i + 1) cs) ≡ unsound_from relation i (drop i cs)
-  unsound_passed e = sym (next ∙ ap (λ (b : Bool). cond b (unsound_from relation (i + 1) (drop (i + 1) cs)) (Some i)) e)
+  pub first_unsound_is : (cs : List (ColumnStatistics K)) → position (λ c. not (sound relation c)) cs ≡ first_unsound relation cs
+  first_unsound_is cs = position_from-zero (λ c. not (sound relation c)) cs ∙ from_index 0 cs

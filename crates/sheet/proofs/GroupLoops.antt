@@ -1,9 +1,6 @@
--- Loops of groupings: the product of the groups, and the key columns. Assumes
--- nothing.
-use Rattle.std.proofs.Common.{◌≡◌, ℕ, ◌+◌, ◌-◌, ◌*◌, ◌^◌, ◌<◌, min, List, [], ◌∷◌, map, length, get_or, drop, set, Some, None, fold, Option, sym, refl, ap, ◌∙◌, arith}
-use lib.Seq.{paste}
-use Rattle.std.proofs.lemmas.List.{length-map, get_or-map, drop_more}
-use Rattle.std.proofs.lemmas.List.Edits.{paste_more}
+-- The loop of groupings: the product of the groups. Assumes nothing.
+use Rattle.std.proofs.Common.{◌≡◌, ℕ, ◌+◌, ◌-◌, ◌*◌, ◌^◌, ◌<◌, min, List, [], ◌∷◌, length, get_or, drop, Some, None, fold, Option, sym, refl, ap, ◌∙◌}
+use Rattle.std.proofs.lemmas.List.{drop_more}
 use Rattle.stats.specs.declared.columns.ColumnStatistics.{ColumnStatistics}
 use Rattle.questions.specs.declared.types.KeySide.{KeySide}
 use Rattle.sheet.specs.Made.{key_groups, groups_times}
@@ -26,10 +23,3 @@ module _ {K : Type 0} (columns : List (ColumnStatistics K)) where
 
     pub product_more : (d q : ℕ) → key_groups columns (get_or ks i k) ≡ Some d → q ≡ min (p * d) (2 ^ 64 - 1) → fold times (Some q) (drop (i + 1) ks) ≡ fold times (Some p) (drop i ks)
     product_more d q e r = ap (λ x. fold times (Some x) (drop (i + 1) ks)) r ∙ sym (next ∙ ap (λ x. fold times (groups_times (Some p) x) (drop (i + 1) ks)) e)
-
--- a turn of the loop that writes what f gives for each value
-pub put_each : {X Y : Type 0} (f : Y → X) (d : List X) (ys : List Y) (at i : ℕ) (y : Y) (x : X) → at + i < length d → i < length ys → x ≡ f (get_or ys i y) → set (paste d at (map f ys) i) (at + i) x ≡ paste d at (map f ys) (i + 1)
-put_each f d ys at i y x h k e =
-    let r : x ≡ get_or (map f ys) i x = e ∙ sym (get_or-map f ys i y x k) in
-    let l : i < length (map f ys) = omega (arith, length-map ys f) in
-    ap (set (paste d at (map f ys) i) (at + i)) r ∙ paste_more d at (map f ys) i x h l

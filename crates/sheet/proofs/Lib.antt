@@ -8,12 +8,8 @@ pub mod Refused
 pub mod Added
 pub mod Carried
 pub mod Children
-pub mod LimitMade
-pub mod TwoChildren
 pub mod PartLoops
 pub mod PartMade
-pub mod Unknowns
-pub mod JoinMade
 pub mod JoinCarried
 pub mod UnionCarried
 pub mod GroupLoops

@@ -1,5 +1,5 @@
 -- What a semi or an anti join makes, from the kept node. Assumes nothing.
-use Rattle.std.proofs.Common.{◌≡◌, ℕ, Bool, List, map, length, Some, None, fold, Option, sym, ap, ◌∙◌}
+use Rattle.std.proofs.Common.{◌≡◌, ℕ, Bool, List, Some, fold, Option, ap, ◌∙◌}
 use Rattle.stats.specs.declared.exactness.Precision.{Precision}
 use Rattle.stats.specs.declared.exactness.Precision.TheVariants.{Exact}
 use Rattle.stats.specs.Precisions.{inexact, known, total, or_zero}
@@ -7,27 +7,15 @@ use Rattle.stats.specs.Scaling.{scaled}
 use Rattle.questions.specs.declared.types.NullEquality.{NullEquality}
 use Rattle.questions.specs.declared.figures.Figure.{Figure}
 use Rattle.sheet.specs.Sheets.{Table}
-use Rattle.sheet.specs.Made.{Made, unknowns, rows_kept, part_by, part}
-use Rattle.stats.specs.Trim.{trimmed}
+use Rattle.sheet.specs.Made.{Made, rows_kept, part_by, part}
 use Rattle.sheet.proofs.PartLoops.{bytes_kept}
-use Rattle.sheet.proofs.Unknowns.{unknowns_trimmed}
 
 module _ {K : Type 0} (anti : Bool) (rule : NullEquality) (keys : List ℕ) (f : Option Figure) (t : Table K) where
   pub part_known : (n : ℕ) → Some n ≡ known t.rows → part_by anti rule keys f (Some n) t ≡ part anti rule keys f t
   part_known n e = ap (λ o. part_by anti rule keys f o t) e
-
-  pub part_unknown : None ≡ known t.rows → part_by anti rule keys f None t ≡ part anti rule keys f t
-  part_unknown e = ap (λ o. part_by anti rule keys f o t) e
-
-  pub part_rows : (n : ℕ) → Some n ≡ known t.rows → rows_kept f t.rows ≡ (part anti rule keys f t).rows
-  part_rows n e = ap (λ (m : Made K). m.rows) (part_known n e)
 
   pub part_bytes : (n k : ℕ) (rows : Precision ℕ) → Some n ≡ known t.rows → rows ≡ rows_kept f t.rows → k ≡ or_zero rows → inexact (fold (λ sum c. total sum (scaled c.byte_size n k)) (Exact 0) t.columns) ≡ (part anti rule keys f t).bytes
   part_bytes n k rows e r z =
       ap (λ j. inexact (fold (λ sum c. total sum (scaled c.byte_size n j)) (Exact 0) t.columns)) (z ∙ ap or_zero r) ∙
       bytes_kept anti rule keys n (or_zero (rows_kept f t.rows)) t.columns ∙
       ap (λ (m : Made K). m.bytes) (part_known n e)
-
-  pub part_hidden : (rows : Precision ℕ) (w : ℕ) → None ≡ known t.rows → length t.columns ≡ w → unknowns w ≡ map (trimmed rows) (part anti rule keys f t).columns
-  part_hidden rows w e wide =
-      ap unknowns (sym wide) ∙ sym (unknowns_trimmed K rows (length t.columns)) ∙ ap (λ (m : Made K). map (trimmed rows) m.columns) (part_unknown e)

@@ -1,6 +1,6 @@
 -- The causes of a refusal, each by itself; the answer is the least number whose
 -- cause holds. Assumes nothing.
-use Rattle.std.specs.Prelude.{ℕ, ◌+◌, ◌-◌, Bool, true, cond, not, ◌&&◌, ◌||◌, List, [], ◌∷◌, map, length, Some, None, Option, ◌==◌, nat_eq, nat_le, nat_lt, slice_index_or}
+use Rattle.std.specs.Prelude.{ℕ, ◌+◌, Bool, true, cond, not, ◌&&◌, ◌||◌, List, [], ◌∷◌, map, length, Some, None, Option, ◌==◌, nat_eq, nat_le, nat_lt}
 use Rattle.std.specs.Option.{option_map, option_or}
 use Rattle.keys.specs.declared.Relation.{Relation}
 use Rattle.stats.specs.declared.exactness.Precision.{Precision}
@@ -17,7 +17,7 @@ use Rattle.questions.specs.Questions.{Question}
 use Rattle.sheet.specs.declared.Node.{Node}
 use Rattle.sheet.specs.declared.refusals.Refusal.{Refusal}
 use Rattle.sheet.specs.declared.refusals.Refusal.TheVariants as refusal
-use Rattle.sheet.specs.Sheets.{Sheet, no_node, node_at, block, table_at}
+use Rattle.sheet.specs.Sheets.{Sheet, node_at, block, table_at}
 use Rattle.sheet.specs.Calls.{Order, lay, join, cross, limit, union, group, children}
 use Rattle.sheet.specs.Made.{Made, joined, crossed, limited, united, grouped}
 
@@ -96,11 +96,6 @@ abbrev pub union_width : {K : Type 0} → Sheet K → List ℕ → ℕ
 union_width s [] = 0
 union_width s (c ∷ cs) = (node_at s c).width
 
--- the same, from node memory
-abbrev pub width_of_first : List Node → List ℕ → ℕ
-width_of_first nodes [] = 0
-width_of_first nodes (c ∷ cs) = (slice_index_or nodes (c - 1) no_node).width
-
 abbrev pub width_of : {K : Type 0} → Sheet K → Order K → ℕ
 width_of s (lay rows bytes columns) = length columns
 width_of s (join t rule l r pairs) = join_width t (node_at s l).width (node_at s r).width
@@ -163,26 +158,6 @@ early_refusal relation s o =
     (unless (keys_inside s o) refusal.KeyIndex
     (unless (width_fits s o) refusal.Width
     (unless (columns_fit s o) refusal.ColumnMemory None)))))
-
--- the same of an order on one child, or on two, whose counts and keys are as told
--- and which makes so many columns
-abbrev pub one_child : {K : Type 0} → (K → K → Relation) → Sheet K → ℕ → Bool → Bool → ℕ → Option Refusal
-one_child relation s c counts inside width =
-    unless (not (no_node_memory s)) refusal.NodeMemory
-    (unless (list_all (fit_child relation s) (c ∷ [])) refusal.Child
-    (unless counts refusal.Count
-    (unless inside refusal.KeyIndex
-    (unless (nat_le width max_width) refusal.Width
-    (unless (nat_le (s.head.used + width) (length s.columns) && list_all (λ n. block_inside s (node_at s n)) (c ∷ [])) refusal.ColumnMemory None)))))
-
-abbrev pub two_children : {K : Type 0} → (K → K → Relation) → Sheet K → ℕ → ℕ → Bool → Bool → ℕ → Option Refusal
-two_children relation s l r counts inside width =
-    unless (not (no_node_memory s)) refusal.NodeMemory
-    (unless (list_all (fit_child relation s) (l ∷ r ∷ [])) refusal.Child
-    (unless counts refusal.Count
-    (unless inside refusal.KeyIndex
-    (unless (nat_le width max_width) refusal.Width
-    (unless (nat_le (s.head.used + width) (length s.columns) && list_all (λ n. block_inside s (node_at s n)) (l ∷ r ∷ [])) refusal.ColumnMemory None)))))
 
 -- 7 and 8, from what the order makes
 abbrev pub sizes : Precision ℕ → Precision ℕ → Option Refusal

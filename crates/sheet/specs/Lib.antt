@@ -1,6 +1,7 @@
 pub mod RefusalNumbers
 pub mod Shorts
 pub mod Sheets
+pub mod Views
 pub mod Calls
 pub mod Made
 pub mod Causes

@@ -1,23 +1,22 @@
 //! Joins by keys.
-ghost use Rattle.std.specs.Prelude.{◌≡◌, ℕ, ◌+◌, ◌≤◌, Bool, List, ◌++◌, map, length, nat_le};
-ghost use Rattle.std.proofs.Math.Seq.{paste};
-ghost use Rattle.std.specs.List.{list_all};
-ghost use Rattle.stats.specs.Trim.{trimmed};
+ghost use Rattle.std.specs.Prelude.{◌≡◌, ℕ, ◌+◌, ◌≤◌, ◌++◌, List, Bool, length};
 ghost use Rattle.questions.specs.declared.types.NullEquality.{NullEquality};
-ghost use Rattle.questions.specs.Types.{max_pairs, pair_inside};
+ghost use Rattle.questions.specs.Types.{max_pairs};
 ghost use Rattle.sheet.specs.declared.operators.Operator.TheVariants as op;
 ghost use Rattle.sheet.specs.Shorts.{kept_as, no_pair};
 ghost use Rattle.sheet.specs.Sheets.{sheet_of, table_of};
+ghost use Rattle.sheet.specs.Views.{seen, told, anti};
 ghost use Rattle.sheet.specs.Calls.{order, join_of};
 ghost use Rattle.sheet.specs.Made.{join_question, combined_rows, combined, key_columns, part, marked, joined_by, figure_held};
-ghost use Rattle.sheet.specs.Causes.{join_width, max_width, two_children};
-ghost use Rattle.sheet.specs.Steps.{node_made, stepped, checked, step};
+ghost use Rattle.sheet.specs.Causes.{join_width, early_refusal};
+ghost use Rattle.sheet.specs.Steps.{stepped, checked, step};
 
-use crate::blocks::{Loosened, Trimmed, block_of, copy_block, copy_two, put_unknown};
+use crate::blocks::{loosen, put_both, put_unknown};
 use crate::calls::add_node;
-use crate::checks::{check_size, check_two, node_of};
-use crate::parts::{Part, bytes_in, put_part, rows_in};
+use crate::checks::{MAX_WIDTH, check_size, refuse_unless};
+use crate::parts::{Part, PartKind, bytes_in, rows_in};
 use crate::shorts::short_of;
+use crate::views::{Table, View, table_of};
 use crate::{Head, Node, Operator, Refusal};
 use keys::Key;
 use questions::{
@@ -36,49 +35,47 @@ pub struct Join<'p> {
     pub on: &'p [KeyPair],
 }
 
-/// The width of a join's node, in two parts: their sum may pass 64 bits.
-fn join_widths(join_type: JoinType, left: usize, right: usize) -> (usize, usize)
-    ensures { result.0 + result.1 ≡ join_width join_type left right }
+/// The width of a join's node.
+fn join_width(join_type: JoinType, left: usize, right: usize) -> u128
+    ensures { result ≡ join_width join_type left right }
 {
+    let (left, right) = (left as u128, right as u128);
     match join_type {
-        JoinType::Inner | JoinType::Full | JoinType::Left | JoinType::Right => (left, right),
-        JoinType::LeftSemi | JoinType::LeftAnti => (left, 0),
-        JoinType::RightSemi | JoinType::RightAnti => (right, 0),
-        JoinType::LeftMark => (left, 1),
-        JoinType::RightMark => (right, 1),
+        JoinType::Inner | JoinType::Full | JoinType::Left | JoinType::Right => left + right,
+        JoinType::LeftSemi | JoinType::LeftAnti => left,
+        JoinType::RightSemi | JoinType::RightAnti => right,
+        JoinType::LeftMark => left + 1,
+        JoinType::RightMark => right + 1,
     }
 }
 
-/// The causes of 1 to 6 of a join of these nodes.
-fn check_join<K: Key>(
-    head: &Head,
-    nodes: &[Node],
-    columns: &[ColumnStatistics<K>],
-    left: &Node,
-    right: &Node,
-    join: &Join<'_>,
-) -> Result<(), Refusal>
-    ensures { result ≡ checked (two_children K.relation (sheet_of head.now nodes.now columns.now) join.now.left join.now.right (nat_le (length join.now.on.now) max_pairs) (list_all (pair_inside left.now.width right.now.width) join.now.on.now) (join_width join.now.join_type left.now.width right.now.width)) }
-{
-    let counts = join.on.len() <= MAX_PAIRS;
-    let inside = are_pairs_inside(left.width, right.width, join.on);
-    let (width, more) = join_widths(join.join_type, left.width, right.width);
-    check_two(
-        head, nodes, columns, join.left, join.right, counts, inside, width, more,
-    )
+impl<'a, K: Key> View<'a, K> {
+    /// The causes of 1 to 6 of a join of two nodes.
+    fn check_join(&self, join: &Join<'_>) -> Result<(), Refusal>
+        ensures { result ≡ checked (early_refusal K.relation (seen self.now) (join_of join.now)) }
+    {
+        let children = [join.left, join.right];
+        let left = self.node(join.left).width;
+        let right = self.node(join.right).width;
+        let width = join_width(join.join_type, left, right);
+        refuse_unless(self.has_node_room(), Refusal::NodeMemory)?;
+        refuse_unless(self.are_fit(&children), Refusal::Child)?;
+        refuse_unless(join.on.len() <= MAX_PAIRS, Refusal::Count)?;
+        refuse_unless(are_pairs_inside(left, right, join.on), Refusal::KeyIndex)?;
+        refuse_unless(width <= MAX_WIDTH as u128, Refusal::Width)?;
+        let memory = self.has_column_room(&children, width);
+        refuse_unless(memory, Refusal::ColumnMemory)
+    }
 }
 
-/// The estimator's figure for a join of these nodes; a mark join asks for none.
+/// The estimator's figure for a join of these tables; a mark join asks for none.
 fn ask<K: Key, E: Estimator<K>>(
     estimator: &E,
-    columns: &[ColumnStatistics<K>],
-    left: &Node,
-    right: &Node,
+    left: &Table<'_, K>,
+    right: &Table<'_, K>,
     join: &Join<'_>,
 ) -> Option<Figure>
-    requires left_inside { left.now.place + left.now.width ≤ length columns.now }
-    requires right_inside { right.now.place + right.now.width ≤ length columns.now }
-    ensures { result ≡ figure_held join.now.join_type (E.Estimator.figure estimator.now (join_question join.now.join_type join.now.null_equality join.now.on.now (table_of columns.now left.now) (table_of columns.now right.now))) }
+    ensures { result ≡ figure_held join.now.join_type (E.Estimator.figure estimator.now (join_question join.now.join_type join.now.null_equality join.now.on.now (told left.now) (told right.now))) }
 {
     let question = JoinQuestion {
         join_type: join.join_type,
@@ -86,11 +83,11 @@ fn ask<K: Key, E: Estimator<K>>(
         on: join.on,
         left: JoinInput {
             num_rows: left.rows,
-            columns: block_of(columns, left),
+            columns: left.columns,
         },
         right: JoinInput {
             num_rows: right.rows,
-            columns: block_of(columns, right),
+            columns: right.columns,
         },
     };
     match join.join_type {
@@ -99,21 +96,18 @@ fn ask<K: Key, E: Estimator<K>>(
     }
 }
 
-/// Rows and bytes of a semi or an anti join that keeps rows of a node.
+/// Rows and bytes of a semi or an anti join that keeps rows of a table.
 fn part_size<K: Key>(
-    columns: &[ColumnStatistics<K>],
-    from: &Node,
+    from: &Table<'_, K>,
     figure: Option<Figure>,
 ) -> (Precision<u64>, Precision<u64>)
-    requires inside { from.now.place + from.now.width ≤ length columns.now }
-    ensures rows { (anti : Bool) (rule : NullEquality) (keys : List ℕ) → result.0 ≡ (part anti rule keys figure (table_of columns.now from.now)).rows }
-    ensures bytes { (anti : Bool) (rule : NullEquality) (keys : List ℕ) → result.1 ≡ (part anti rule keys figure (table_of columns.now from.now)).bytes }
+    ensures rows { (anti : Bool) (rule : NullEquality) (keys : List ℕ) → result.0 ≡ (part anti rule keys figure (told from.now)).rows }
+    ensures bytes { (anti : Bool) (rule : NullEquality) (keys : List ℕ) → result.1 ≡ (part anti rule keys figure (told from.now)).bytes }
 {
     match from.rows.get_value() {
         Some(old_rows) => {
             let rows = rows_in(figure, from.rows);
-            let block = block_of(columns, from);
-            (rows, bytes_in(old_rows, rows.or_zero(), block))
+            (rows, bytes_in(old_rows, rows.or_zero(), from.columns))
         }
         None => (Precision::Absent, Precision::Absent),
     }
@@ -123,159 +117,131 @@ fn part_size<K: Key>(
 fn combined_rows(figure: Option<Figure>) -> Precision<u64>
     ensures { result ≡ combined_rows figure }
 {
-    match figure {
-        Some(figure) => Precision::from(figure).to_inexact(),
-        None => Precision::Absent,
-    }
+    figure
+        .map_or(Precision::Absent, Precision::from)
+        .to_inexact()
 }
 
 /// Rows and bytes of a join.
 fn join_size<K: Key>(
-    columns: &[ColumnStatistics<K>],
-    left: &Node,
-    right: &Node,
+    left: &Table<'_, K>,
+    right: &Table<'_, K>,
     join: &Join<'_>,
     figure: Option<Figure>,
 ) -> (Precision<u64>, Precision<u64>)
-    requires left_inside { left.now.place + left.now.width ≤ length columns.now }
-    requires right_inside { right.now.place + right.now.width ≤ length columns.now }
-    ensures rows { result.0 ≡ (joined_by join.now.join_type join.now.null_equality join.now.on.now figure (table_of columns.now left.now) (table_of columns.now right.now)).rows }
-    ensures bytes { result.1 ≡ (joined_by join.now.join_type join.now.null_equality join.now.on.now figure (table_of columns.now left.now) (table_of columns.now right.now)).bytes }
+    ensures rows { result.0 ≡ (joined_by join.now.join_type join.now.null_equality join.now.on.now figure (told left.now) (told right.now)).rows }
+    ensures bytes { result.1 ≡ (joined_by join.now.join_type join.now.null_equality join.now.on.now figure (told left.now) (told right.now)).bytes }
 {
     match join.join_type {
         JoinType::Inner | JoinType::Full | JoinType::Left | JoinType::Right => {
             (combined_rows(figure), Precision::Absent)
         }
-        JoinType::LeftSemi | JoinType::LeftAnti => part_size(columns, left, figure),
-        JoinType::RightSemi | JoinType::RightAnti => part_size(columns, right, figure),
+        JoinType::LeftSemi | JoinType::LeftAnti => part_size(left, figure),
+        JoinType::RightSemi | JoinType::RightAnti => part_size(right, figure),
         JoinType::LeftMark => (left.rows.to_inexact(), Precision::Absent),
         JoinType::RightMark => (right.rows.to_inexact(), Precision::Absent),
     }
 }
 
-/// Writes the columns of an inner or an outer join, trimmed to `rows`.
+/// Writes the columns of an inner or an outer join.
 fn put_combined<K: Key>(
-    columns: &mut [ColumnStatistics<K>],
-    left: &Node,
-    right: &Node,
-    at: usize,
-    rows: Precision<u64>,
+    block: &mut [ColumnStatistics<K>],
+    left: &Table<'_, K>,
+    right: &Table<'_, K>,
     figure: Option<Figure>,
 )
-    requires left_below { left.now.place + left.now.width ≤ at }
-    requires right_below { right.now.place + right.now.width ≤ at }
-    requires space { at + (left.now.width + right.now.width) ≤ length columns.old }
-    ensures { columns.new ≡ paste columns.old at (map (trimmed rows) (combined figure (table_of columns.old left.now) (table_of columns.old right.now)).columns) (left.now.width + right.now.width) }
+    requires { length block.old ≡ length (left.now.columns.now ++ right.now.columns.now) }
+    ensures { block.new ≡ (combined figure (told left.now) (told right.now)).columns }
 {
     match figure {
-        Some(_) => copy_two(columns, left, right, at, &Loosened { rows }),
-        None => put_unknown(columns, at, left.width + right.width),
+        Some(_) => {
+            put_both(block, left.columns, right.columns);
+            loosen(block)
+        }
+        None => put_unknown(block),
     }
 }
 
-/// Writes the columns of a semi or an anti join on a side, trimmed to `rows`.
-fn put_kept<K: Key>(
-    columns: &mut [ColumnStatistics<K>],
-    from: &Node,
-    at: usize,
-    rows: Precision<u64>,
+/// Writes the columns of a semi or an anti join on a side.
+fn put_part<K: Key>(
+    block: &mut [ColumnStatistics<K>],
+    from: &Table<'_, K>,
     join: &Join<'_>,
     side: JoinSide,
-    anti: bool,
+    kind: PartKind,
     figure: Option<Figure>,
 )
-    requires below { from.now.place + from.now.width ≤ at }
-    requires space { at + from.now.width ≤ length columns.old }
-    ensures { columns.new ≡ paste columns.old at (map (trimmed rows) (part anti join.now.null_equality (key_columns side join.now.on.now) figure (table_of columns.old from.now)).columns) from.now.width }
+    requires { length block.old ≡ length from.now.columns.now }
+    ensures { block.new ≡ (part (anti kind) join.now.null_equality (key_columns side join.now.on.now) figure (told from.now)).columns }
+{
+    let Some(old_rows) = from.rows.get_value() else {
+        return put_unknown(block);
+    };
+    let part = Part {
+        kind,
+        null_equality: join.null_equality,
+        side,
+        on: join.on,
+        old_rows,
+        new_rows: rows_in(figure, from.rows).or_zero(),
+    };
+    part.put(block, from.columns)
+}
+
+/// Writes the columns of a mark join.
+fn put_marked<K: Key>(block: &mut [ColumnStatistics<K>], from: &Table<'_, K>)
+    requires { length block.old ≡ length from.now.columns.now + 1 }
+    ensures { block.new ≡ (marked (told from.now)).columns }
 {
     match from.rows.get_value() {
-        Some(old_rows) => {
-            let part = Part {
-                anti,
-                null_equality: join.null_equality,
-                side,
-                on: join.on,
-                old_rows,
-                new_rows: rows_in(figure, from.rows).or_zero(),
-            };
-            put_part(columns, from, at, rows, &part)
-        }
-        None => put_unknown(columns, at, from.width),
+        Some(_) => put_both(block, from.columns, &[ColumnStatistics::unknown()]),
+        None => put_unknown(block),
     }
 }
 
-/// Writes the columns of a mark join, trimmed to `rows`.
-fn put_marked<K: Key>(
-    columns: &mut [ColumnStatistics<K>],
-    from: &Node,
-    at: usize,
-    rows: Precision<u64>,
-)
-    requires below { from.now.place + from.now.width ≤ at }
-    requires space { at + (from.now.width + 1) ≤ length columns.old }
-    ensures { columns.new ≡ paste columns.old at (map (trimmed rows) (marked (table_of columns.old from.now)).columns) (from.now.width + 1) }
-{
-    match from.rows.get_value() {
-        Some(_) => {
-            copy_block(columns, from.place, from.width, at, &Trimmed { rows });
-            put_unknown(columns, at + from.width, 1)
-        }
-        None => put_unknown(columns, at, from.width + 1),
-    }
-}
-
-/// Writes the columns of a join, trimmed to `rows`.
+/// Writes the columns of a join.
 fn put_joined<K: Key>(
-    columns: &mut [ColumnStatistics<K>],
-    left: &Node,
-    right: &Node,
-    at: usize,
-    rows: Precision<u64>,
+    block: &mut [ColumnStatistics<K>],
+    left: &Table<'_, K>,
+    right: &Table<'_, K>,
     join: &Join<'_>,
     figure: Option<Figure>,
 )
-    requires left_below { left.now.place + left.now.width ≤ at }
-    requires right_below { right.now.place + right.now.width ≤ at }
-    requires space { at + join_width join.now.join_type left.now.width right.now.width ≤ length columns.old }
-    ensures { columns.new ≡ paste columns.old at (map (trimmed rows) (joined_by join.now.join_type join.now.null_equality join.now.on.now figure (table_of columns.old left.now) (table_of columns.old right.now)).columns) (join_width join.now.join_type left.now.width right.now.width) }
+    requires { length block.old ≡ join_width join.now.join_type (length left.now.columns.now) (length right.now.columns.now) }
+    ensures { block.new ≡ (joined_by join.now.join_type join.now.null_equality join.now.on.now figure (told left.now) (told right.now)).columns }
 {
+    let (semi, anti) = (PartKind::Semi, PartKind::Anti);
     match join.join_type {
         JoinType::Inner | JoinType::Full | JoinType::Left | JoinType::Right => {
-            put_combined(columns, left, right, at, rows, figure)
+            put_combined(block, left, right, figure)
         }
-        JoinType::LeftSemi => {
-            put_kept(columns, left, at, rows, join, JoinSide::Left, false, figure)
-        }
-        JoinType::RightSemi => {
-            put_kept(
-                columns,
-                right,
-                at,
-                rows,
-                join,
-                JoinSide::Right,
-                false,
-                figure,
-            )
-        }
-        JoinType::LeftAnti => {
-            put_kept(columns, left, at, rows, join, JoinSide::Left, true, figure)
-        }
-        JoinType::RightAnti => {
-            put_kept(
-                columns,
-                right,
-                at,
-                rows,
-                join,
-                JoinSide::Right,
-                true,
-                figure,
-            )
-        }
-        JoinType::LeftMark => put_marked(columns, left, at, rows),
-        JoinType::RightMark => put_marked(columns, right, at, rows),
+        JoinType::LeftSemi => put_part(block, left, join, JoinSide::Left, semi, figure),
+        JoinType::RightSemi => put_part(block, right, join, JoinSide::Right, semi, figure),
+        JoinType::LeftAnti => put_part(block, left, join, JoinSide::Left, anti, figure),
+        JoinType::RightAnti => put_part(block, right, join, JoinSide::Right, anti, figure),
+        JoinType::LeftMark => put_marked(block, left),
+        JoinType::RightMark => put_marked(block, right),
     }
+}
+
+/// Writes the columns of a join of nodes of the used part. It takes the nodes and
+/// not their tables: what holds a part of a slice that is lent loses what is known
+/// of the other part.
+fn write_joined<K: Key>(
+    block: &mut [ColumnStatistics<K>],
+    used: &[ColumnStatistics<K>],
+    left: &Node,
+    right: &Node,
+    join: &Join<'_>,
+    figure: Option<Figure>,
+)
+    requires left_inside { left.now.place + left.now.width ≤ length used.now }
+    requires right_inside { right.now.place + right.now.width ≤ length used.now }
+    requires wide { length block.old ≡ join_width join.now.join_type left.now.width right.now.width }
+    ensures { block.new ≡ (joined_by join.now.join_type join.now.null_equality join.now.on.now figure (table_of used.now left.now) (table_of used.now right.now)).columns }
+{
+    let (left, right) = (table_of(used, left), table_of(used, right));
+    put_joined(block, &left, &right, join, figure)
 }
 
 /// What a node keeps of a join.
@@ -296,33 +262,6 @@ fn join_operator(join: &Join<'_>) -> Operator
     }
 }
 
-/// The node of a join, its block at `place`.
-fn join_node<K: Key>(
-    place: usize,
-    columns: &[ColumnStatistics<K>],
-    left: &Node,
-    right: &Node,
-    join: &Join<'_>,
-    figure: Option<Figure>,
-) -> Node
-    requires left_inside { left.now.place + left.now.width ≤ length columns.now }
-    requires right_inside { right.now.place + right.now.width ≤ length columns.now }
-    requires few { length join.now.on.now ≤ max_pairs }
-    requires narrow { join_width join.now.join_type left.now.width right.now.width ≤ max_width }
-    ensures { result ≡ node_made (op.Join join.now.join_type join.now.null_equality join.now.left join.now.right (kept_as no_pair join.now.on.now)) (joined_by join.now.join_type join.now.null_equality join.now.on.now figure (table_of columns.now left.now) (table_of columns.now right.now)).rows (joined_by join.now.join_type join.now.null_equality join.now.on.now figure (table_of columns.now left.now) (table_of columns.now right.now)).bytes figure place (join_width join.now.join_type left.now.width right.now.width) }
-{
-    let (rows, bytes) = join_size(columns, left, right, join, figure);
-    let (width, more) = join_widths(join.join_type, left.width, right.width);
-    Node {
-        rows,
-        bytes,
-        place,
-        width: width + more,
-        figure,
-        operator: join_operator(join),
-    }
-}
-
 /// Joins two nodes by keys.
 pub(crate) fn joined_on<K: Key, E: Estimator<K>>(
     head: &mut Head,
@@ -333,12 +272,27 @@ pub(crate) fn joined_on<K: Key, E: Estimator<K>>(
 ) -> Result<usize, Refusal>
     ensures { stepped result (sheet_of head.new nodes.new columns.new) ≡ step K.relation (E.Estimator.figure estimator.now) (order (join_of join.now)) (sheet_of head.old nodes.old columns.old) }
 {
-    let left = node_of(nodes, join.left);
-    let right = node_of(nodes, join.right);
-    check_join(head, nodes, columns, &left, &right, join)?;
-    let figure = ask(estimator, columns, &left, &right, join);
-    let node = join_node(head.used, columns, &left, &right, join, figure);
-    check_size(node.rows, node.bytes)?;
-    put_joined(columns, &left, &right, head.used, node.rows, join, figure);
-    Ok(add_node(head, nodes, node))
+    let view = View {
+        head: *head,
+        nodes,
+        columns,
+    };
+    view.check_join(join)?;
+    let (l, r) = (view.node(join.left), view.node(join.right));
+    let (left, right) = (table_of(columns, &l), table_of(columns, &r));
+    let figure = ask(estimator, &left, &right, join);
+    let (rows, bytes) = join_size(&left, &right, join, figure);
+    check_size(rows, bytes)?;
+    let width = join_width(join.join_type, l.width, r.width) as usize;
+    let (used, free) = columns.split_at_mut(head.used);
+    write_joined(&mut free[..width], used, &l, &r, join, figure);
+    let node = Node {
+        rows,
+        bytes,
+        place: head.used,
+        width,
+        figure,
+        operator: join_operator(join),
+    };
+    Ok(add_node(head, nodes, columns, node))
 }

@@ -22,6 +22,7 @@ mod reads;
 mod refusals;
 mod shorts;
 mod unions;
+mod views;
 
 use calls::{cut_on, laid_on};
 use crosses::crossed_on;
@@ -174,6 +175,16 @@ pub struct Node {
     pub figure: Option<Figure>,
     pub operator: Operator,
 }
+
+/// A node without rows and columns.
+pub const NO_NODE: Node = Node {
+    rows: Precision::Exact(0),
+    bytes: Precision::Exact(0),
+    place: 0,
+    width: 0,
+    figure: None,
+    operator: Operator::Lay,
+};
 
 /// The laws of the sheet, over every run: the contract is the theorem. Whatever
 /// list of calls made a sheet of a blank one, some of them refused, it keeps the

@@ -1,15 +1,16 @@
 //! Limits: rows after a skip, and a fetch at most.
-ghost use Rattle.std.specs.Prelude.{◌≡◌, None};
-ghost use Rattle.stats.specs.Bytes.{rescaled_bytes};
-ghost use Rattle.sheet.specs.declared.operators.Operator.TheVariants as op;
+ghost use Rattle.std.specs.Prelude.{◌≡◌};
 ghost use Rattle.sheet.specs.Sheets.{sheet_of};
+ghost use Rattle.sheet.specs.Views.{seen};
 ghost use Rattle.sheet.specs.Calls.{order, limit};
 ghost use Rattle.sheet.specs.Made.{fetched, limit_rows};
-ghost use Rattle.sheet.specs.Steps.{node_made, stepped, step, no_figure};
+ghost use Rattle.sheet.specs.Causes.{early_refusal};
+ghost use Rattle.sheet.specs.Steps.{stepped, checked, step, no_figure};
 
-use crate::blocks::{Loosened, copy_block};
+use crate::blocks::put_loosened;
 use crate::calls::add_node;
-use crate::checks::{check_one, check_size, node_of};
+use crate::checks::{MAX_WIDTH, check_size, refuse_unless};
+use crate::views::{View, block_of};
 use crate::{Head, Node, Operator, Refusal};
 use keys::Key;
 use stats::{ColumnStatistics, Precision, rescale_byte_size};
@@ -18,10 +19,7 @@ use stats::{ColumnStatistics, Precision, rescale_byte_size};
 fn fetch_of(fetch: Option<u64>, rows: u64) -> u64
     ensures { result ≡ fetched fetch rows }
 {
-    match fetch {
-        Some(most) => rows.min(most),
-        None => rows,
-    }
+    fetch.map_or(rows, |most| rows.min(most))
 }
 
 /// The rows of a limit, from its child's.
@@ -29,27 +27,22 @@ fn limited_rows(skip: u64, fetch: Option<u64>, rows: Precision<u64>) -> Precisio
     ensures { result ≡ limit_rows skip fetch rows }
 {
     match rows {
-        Precision::Exact(n) => Precision::Exact(fetch_of(fetch, n.saturating_sub(skip))),
-        Precision::Inexact(n) => Precision::Inexact(fetch_of(fetch, n.saturating_sub(skip))),
-        Precision::Absent => match fetch {
-            Some(most) => Precision::Inexact(most),
-            None => Precision::Absent,
-        },
+        Precision::Absent => fetch.map_or(Precision::Absent, Precision::Inexact),
+        known => known.map(|n| fetch_of(fetch, n.saturating_sub(skip))),
     }
 }
 
-/// The node of a limit, its block at `place`.
-fn limit_node(place: usize, from: &Node, child: usize, skip: u64, fetch: Option<u64>) -> Node
-    ensures { result ≡ node_made (op.Limit child skip fetch) (limit_rows skip fetch from.now.rows) (rescaled_bytes from.now.bytes from.now.rows (limit_rows skip fetch from.now.rows)) None place from.now.width }
-{
-    let rows = limited_rows(skip, fetch, from.rows);
-    Node {
-        rows,
-        bytes: rescale_byte_size(from.bytes, from.rows, rows),
-        place,
-        width: from.width,
-        figure: None,
-        operator: Operator::Limit { child, skip, fetch },
+impl<'a, K: Key> View<'a, K> {
+    /// The causes of 1 to 6 of a limit of a node.
+    fn check_limit(&self, child: usize, skip: u64, fetch: Option<u64>) -> Result<(), Refusal>
+        ensures { result ≡ checked (early_refusal K.relation (seen self.now) (limit child skip fetch)) }
+    {
+        let width = self.node(child).width;
+        refuse_unless(self.has_node_room(), Refusal::NodeMemory)?;
+        refuse_unless(self.are_fit(&[child]), Refusal::Child)?;
+        refuse_unless(width <= MAX_WIDTH, Refusal::Width)?;
+        let memory = self.has_column_room(&[child], width as u128);
+        refuse_unless(memory, Refusal::ColumnMemory)
     }
 }
 
@@ -64,11 +57,25 @@ pub(crate) fn limited_on<K: Key>(
 ) -> Result<usize, Refusal>
     ensures { stepped result (sheet_of head.new nodes.new columns.new) ≡ step K.relation no_figure (order (limit child skip fetch)) (sheet_of head.old nodes.old columns.old) }
 {
-    let from = node_of(nodes, child);
-    check_one(head, nodes, columns, child, true, true, from.width, 0)?;
-    let node = limit_node(head.used, &from, child, skip, fetch);
-    check_size(node.rows, node.bytes)?;
-    let change = Loosened { rows: node.rows };
-    copy_block(columns, from.place, from.width, head.used, &change);
-    Ok(add_node(head, nodes, node))
+    let view = View {
+        head: *head,
+        nodes,
+        columns,
+    };
+    view.check_limit(child, skip, fetch)?;
+    let from = view.node(child);
+    let rows = limited_rows(skip, fetch, from.rows);
+    let bytes = rescale_byte_size(from.bytes, from.rows, rows);
+    check_size(rows, bytes)?;
+    let (used, free) = columns.split_at_mut(head.used);
+    put_loosened(&mut free[..from.width], block_of(used, &from));
+    let node = Node {
+        rows,
+        bytes,
+        place: head.used,
+        width: from.width,
+        figure: None,
+        operator: Operator::Limit { child, skip, fetch },
+    };
+    Ok(add_node(head, nodes, columns, node))
 }

@@ -4,6 +4,7 @@ ghost use Rattle.sheet.specs.Shorts.{kept_as};
 
 /// At most sixteen values: the first `len` of the items. Where memory holds a
 /// larger `len`, all items count.
+// A length beside the items, and no `Vec`: a node lies in memory that is handed in.
 #[derive(Clone, Copy)]
 pub struct Short<T> {
     pub items: [T; 16],
@@ -16,9 +17,7 @@ pub(crate) fn short_of<T: Copy>(filler: T, values: &[T]) -> Short<T>
     ensures { result ≡ kept_as filler values.now }
 {
     let mut items = [filler; 16];
-    for i in 0..values.len() {
-        items[i] = values[i];
-    }
+    items[..values.len()].copy_from_slice(values);
     Short {
         items,
         len: values.len(),

@@ -1,4 +1,3 @@
-pub mod EveryMore
 pub mod Trims
 pub mod Scales
 pub mod Known

@@ -1,80 +1,112 @@
-use Rattle.std.proofs.Common.{◌+◌, ◌*◌, ◌^◌, ◌<◌, true, map, length, None, Err, ap, ◌∙◌, arith, rules}
-use lib.Seq.{paste}
+use Rattle.std.proofs.Common.{◌≡◌, ℕ, ◌+◌, ◌≤◌, ◌*◌, List, ◌++◌, [], ◌∷◌, length, take, Ok, Err, None, sym, refl, ap, ◌∙◌, arith}
 use Rattle.std.proofs.lemmas.Result.{err_from_is_err_and}
-use Rattle.stats.specs.declared.exactness.Precision.TheVariants.{Absent}
+use Rattle.std.proofs.lemmas.List.{length-take, length-append, length-drop}
+use Rattle.keys.specs.declared.Relation.{Relation}
+use Rattle.stats.specs.declared.columns.ColumnStatistics.{ColumnStatistics}
 use Rattle.stats.specs.Precisions.{both}
-use Rattle.stats.specs.Trim.{trimmed}
 use Rattle.sheet.specs.declared.Node.{Node}
 use Rattle.sheet.specs.declared.operators.Operator.TheVariants as op
-use Rattle.sheet.specs.Sheets.{sheet_of, table_at}
-use Rattle.sheet.specs.Made.{crossed}
-use Rattle.sheet.specs.Steps.{node_made}
-use Rattle.sheet.proofs.Children.{two_room, left_readable, right_readable}
-use Rattle.sheet.proofs.TwoChildren.{two_early, two_blocks, two_wide}
+use Rattle.sheet.specs.Sheets.{Sheet, sheet_of, node_at, block, table_at}
+use Rattle.sheet.specs.Calls.{cross}
+use Rattle.sheet.specs.Made.{Made, crossed}
+use Rattle.sheet.specs.Causes.{early_refusal}
+use Rattle.sheet.specs.Steps.{checked, no_figure}
+use Rattle.sheet.proofs.Children.{Early, Readable, early_passed, first_readable, second_readable}
 use Rattle.sheet.proofs.Carried.{early_refused, size_refused, carried_out}
 use Rattle.sheet.proofs.crosses.crossed_on.Goals as goal
 
-pub returns-in_err-check_two : goal.returns-in_err-check_two
-returns-in_err-check_two g c =
-    let s = sheet_of c.args.head.now c.args.nodes.now c.args.columns.now in
-    let m = crossed (table_at s c.args.l) (table_at s c.args.r) in
-    let p = err_from_is_err_and c.from_residual.result c.from_residual.ensures.1 in
-    early_refused s (op.Cross c.args.l c.args.r) m _ c.from_residual.result _ (p.1 ∙ ap Err p.2)
-    (c.in_err-check_two.ensures ∙ two_early g.K.Key.relation s c.args.l c.args.r _ _ c.node_of-left.ensures c.node_of-right.ensures true true)
+module _ {K : Type 0} (relation : K → K → Relation) (s : Sheet K) (l r : ℕ) (check : Ok tt ≡ checked (early_refusal relation s (cross l r))) (left right : Node) (is-left : left ≡ node_at s l) (is-right : right ≡ node_at s r) where
+  early : Early relation s (cross l r)
+  early = early_passed relation s (cross l r) check
 
-pub cross_node-node-requires : goal.cross_node-node-requires
-cross_node-node-requires g c =
+  at_left : Readable s left
+  at_left = first_readable relation s (cross l r) early l (r ∷ []) refl left is-left
+
+  at_right : Readable s right
+  at_right = second_readable relation s (cross l r) early l r [] refl right is-right
+
+  width : left.width + right.width ≡ (node_at s l).width + (node_at s r).width
+  width = λ i. (is-left i).width + (is-right i).width
+
+  space : s.head.used + (left.width + right.width) ≤ length s.columns
+  space = let e : s.head.used + ((node_at s l).width + (node_at s r).width) ≤ length s.columns = early.space in let w = width in omega arith
+
+  abbrev makes : Made K
+  makes = crossed (table_at s l) (table_at s r)
+
+  wide : length makes.columns ≡ left.width + right.width
+  wide = early.wide no_figure ∙ sym width
+
+  rows : both ◌*◌ left.rows right.rows ≡ makes.rows
+  rows = λ i. both ◌*◌ (is-left i).rows (is-right i).rows
+
+  blocks : (used : List (ColumnStatistics K)) → used ≡ take s.head.used s.columns → block used left ++ block used right ≡ makes.columns
+  blocks used front =
+      (λ i. block (front i) left ++ block (front i) right) ∙ (λ i. at_left.same i ++ at_right.same i) ∙ (λ i. block s.columns (is-left i) ++ block s.columns (is-right i))
+
+  lengths : (used : List (ColumnStatistics K)) → used ≡ take s.head.used s.columns → (length (block used left) ≡ left.width) × (length (block used right) ≡ right.width)
+  lengths used front =
+      (ap (λ d. length (block d left)) front ∙ ap length at_left.same ∙ at_left.wide, ap (λ d. length (block d right)) front ∙ ap length at_right.same ∙ at_right.wide)
+
+pub returns-in_err-check_cross : goal.returns-in_err-check_cross
+returns-in_err-check_cross g c =
     let s = sheet_of c.args.head.now c.args.nodes.now c.args.columns.now in
-    let check = c.in_ok-check_two.ensures in
-    record {
-      few = (left_readable g.K.Key.relation s c.args.l c.args.r true true _ check _ c.node_of-left.ensures).rows;
-      others = (right_readable g.K.Key.relation s c.args.l c.args.r true true _ check _ c.node_of-right.ensures).rows;
-      narrow = (two_room g.K.Key.relation s c.args.l c.args.r true true _ check).narrow;
-    }
+    let p = err_from_is_err_and c.from_residual.result c.from_residual.ensures.1 in
+    early_refused s (op.Cross c.args.l c.args.r) (crossed (table_at s c.args.l) (table_at s c.args.r)) (early_refusal g.K.Key.relation s (cross c.args.l c.args.r)) c.from_residual.result _ (p.1 ∙ ap Err p.2) c.in_err-check_cross.ensures
 
 pub returns-in_err-check_size : goal.returns-in_err-check_size
 returns-in_err-check_size g c =
     let s = sheet_of c.args.head.now c.args.nodes.now c.args.columns.now in
-    let m = crossed (table_at s c.args.l) (table_at s c.args.r) in
-    let left = c.node_of-left.ensures in
-    let right = c.node_of-right.ensures in
+    let check = c.in_ok-check_cross.ensures in
     let p = err_from_is_err_and c.from_residual-in_err-check_size.result c.from_residual-in_err-check_size.ensures.1 in
-    let early = c.in_ok-check_two.ensures ∙ two_early g.K.Key.relation s c.args.l c.args.r _ _ left right true true in
-    let node = c.cross_node-node.ensures ∙ (λ i. node_made (op.Cross c.args.l c.args.r) (both ◌*◌ (left i).rows (right i).rows) Absent None s.head.used (c.node_of-left.result.width + c.node_of-right.result.width)) in
-    size_refused s _ m _ _ _ node early _ _ (p.1 ∙ ap Err p.2) c.in_err-check_size.ensures
+    size_refused s (op.Cross c.args.l c.args.r) (crossed (table_at s c.args.l) (table_at s c.args.r)) _ _ _ None _
+    (c.crossed_rows-rows.ensures ∙ rows g.K.Key.relation s c.args.l c.args.r check _ _ c.node-left.ensures c.node-right.ensures) refl refl
+    (wide g.K.Key.relation s c.args.l c.args.r check _ _ c.node-left.ensures c.node-right.ensures) check
+    _ _ (p.1 ∙ ap Err p.2) c.in_err-check_size.ensures
 
-pub copy_two-requires : goal.copy_two-requires
-copy_two-requires g c =
+pub slice_bounds-put_both-end-2 : goal.slice_bounds-put_both-end-2
+slice_bounds-put_both-end-2 g c =
     let s = sheet_of c.args.head.now c.args.nodes.now c.args.columns.now in
-    let check = c.in_ok-check_two.ensures in
-    record {
-      left_below = (left_readable g.K.Key.relation s c.args.l c.args.r true true _ check _ c.node_of-left.ensures).below;
-      right_below = (right_readable g.K.Key.relation s c.args.l c.args.r true true _ check _ c.node_of-right.ensures).below;
-      space = (two_room g.K.Key.relation s c.args.l c.args.r true true _ check).space;
-    }
+    let h = space g.K.Key.relation s c.args.l c.args.r c.in_ok-check_cross.ensures _ _ c.node-left.ensures c.node-right.ensures in
+    let b = c.split_at_mut-used.ensures.back_len in
+    simp length-take (omega arith)
+
+pub block_of-requires-2 : goal.block_of-requires-2
+block_of-requires-2 g c =
+    let s = sheet_of c.args.head.now c.args.nodes.now c.args.columns.now in
+    let a = at_right g.K.Key.relation s c.args.l c.args.r c.in_ok-check_cross.ensures _ _ c.node-left.ensures c.node-right.ensures in
+    let f = c.split_at_mut-used.ensures.front_len in
+    omega (arith, a.below)
+
+pub put_both-requires : goal.put_both-requires
+put_both-requires g c =
+    let s = sheet_of c.args.head.now c.args.nodes.now c.args.columns.now in
+    let h = space g.K.Key.relation s c.args.l c.args.r c.in_ok-check_cross.ensures _ _ c.node-left.ensures c.node-right.ensures in
+    let w = lengths g.K.Key.relation s c.args.l c.args.r c.in_ok-check_cross.ensures _ _ c.node-left.ensures c.node-right.ensures _ c.split_at_mut-used.ensures.front in
+    let b = c.split_at_mut-used.ensures.back_len in
+    simp length-take (omega (arith, ap length c.block_of.ensures, ap length c.block_of-2.ensures))
 
 pub add_node-requires : goal.add_node-requires
 add_node-requires g c =
     let s = sheet_of c.args.head.now c.args.nodes.now c.args.columns.now in
-    let room = two_room g.K.Key.relation s c.args.l c.args.r true true _ c.in_ok-check_two.ensures in
-    let b : length c.args.columns.now < 2 ^ 64 = search rules in
-    record { room = room.room; space = omega (arith, room.space, ap (λ (n : Node). n.width) c.cross_node-node.ensures, b) }
+    let check = c.in_ok-check_cross.ensures in
+    let h = space g.K.Key.relation s c.args.l c.args.r check _ _ c.node-left.ensures c.node-right.ensures in
+    let split = c.split_at_mut-used.ensures in
+    record {
+      room = (early g.K.Key.relation s c.args.l c.args.r check _ _ c.node-left.ensures c.node-right.ensures).room;
+      space = omega (arith, ap length split.value, length-append {A = ColumnStatistics g.row.K.Denot}, length-drop {A = ColumnStatistics g.row.K.Denot}, split.front_len, c.put_both.auto.block, length-take {A = ColumnStatistics g.row.K.Denot});
+    }
 
 pub returns : goal.returns
 returns g c =
     let s = sheet_of c.args.head.now c.args.nodes.now c.args.columns.now in
-    let m = crossed (table_at s c.args.l) (table_at s c.args.r) in
-    let left = c.node_of-left.ensures in
-    let right = c.node_of-right.ensures in
-    let check = c.in_ok-check_two.ensures in
-    let early = check ∙ two_early g.K.Key.relation s c.args.l c.args.r _ _ left right true true in
-    let width = c.node_of-left.result.width + c.node_of-right.result.width in
-    let node = c.cross_node-node.ensures ∙ (λ i. node_made (op.Cross c.args.l c.args.r) (both ◌*◌ (left i).rows (right i).rows) Absent None s.head.used width) in
-    let x = (left_readable g.K.Key.relation s c.args.l c.args.r true true _ check _ left).wide in
-    let y = (right_readable g.K.Key.relation s c.args.l c.args.r true true _ check _ right).wide in
-    let rows = ap (λ (n : Node). n.rows) node in
-    let blocks = two_blocks g.K.Key.relation s c.args.l c.args.r _ _ left right in
-    carried_out s _ m _ _ _ node early _ _ _ _ c.in_ok-check_size.ensures
-    (two_wide g.K.Key.relation s c.args.l c.args.r _ _ left right x y)
-    c.add_node.ensures.number c.add_node.ensures.counts c.add_node.ensures.adds
-    (c.copy_two.ensures ∙ (λ i. paste s.columns s.head.used (map (trimmed (rows i)) (blocks i)) width))
+    let check = c.in_ok-check_cross.ensures in
+    let split = c.split_at_mut-used.ensures in
+    let added = c.add_node.ensures in
+    carried_out s (op.Cross c.args.l c.args.r) (crossed (table_at s c.args.l) (table_at s c.args.r)) _ _ _ None _
+    (c.crossed_rows-rows.ensures ∙ rows g.K.Key.relation s c.args.l c.args.r check _ _ c.node-left.ensures c.node-right.ensures) refl refl
+    (wide g.K.Key.relation s c.args.l c.args.r check _ _ c.node-left.ensures c.node-right.ensures) check
+    c.in_ok-check_size.ensures (space g.K.Key.relation s c.args.l c.args.r check _ _ c.node-left.ensures c.node-right.ensures)
+    _ _ _ split.value split.front_len
+    (c.put_both.ensures ∙ (λ i. c.block_of.ensures i ++ c.block_of-2.ensures i) ∙ blocks g.K.Key.relation s c.args.l c.args.r check _ _ c.node-left.ensures c.node-right.ensures _ split.front)
+    _ _ _ _ added.number added.counts added.adds added.trims

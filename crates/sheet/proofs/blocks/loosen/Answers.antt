@@ -1,0 +1,9 @@
+use Rattle.std.proofs.Common.{set, sym, ap, ◌∙◌}
+use Rattle.std.proofs.lemmas.List.Edits.{map_over_more}
+use Rattle.stats.specs.Columns.{column_inexact}
+use Rattle.sheet.proofs.blocks.loosen.Goals as goal
+
+pub loop-column-preserved : goal.loop-column-preserved
+loop-column-preserved g c =
+    ap (set c.loop-column.block c.loop-column.column-index) (c.to_inexact.ensures ∙ ap column_inexact (sym c.column-item.is)) ∙
+    map_over_more column_inexact c.args.block.now c.loop-column.block c.loop-column.column-index c.column-item.result c.loop-column-test.true c.loop-column.invariant c.column-item.is
