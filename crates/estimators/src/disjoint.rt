@@ -17,15 +17,11 @@ fn zero_if_low_past_high<K: Key>(
 ) -> Precision<u64>
     ensures { result ≡ low_past_high K.relation column.now other.now }
 {
-    match column.min_value.zip(other.max_value) {
-        Precision::Exact((low, high)) if low.compare(high) == Relation::After => {
-            Precision::Exact(0)
-        }
-        Precision::Inexact((low, high)) if low.compare(high) == Relation::After => {
-            Precision::Inexact(0)
-        }
-        _ => Precision::Absent,
-    }
+    let ends = column.min_value.zip(other.max_value);
+    ends.filter_map(|(low, high)| match low.compare(high) {
+        Relation::After => Some(0),
+        _ => None,
+    })
 }
 
 /// 0 where the ranges of the two columns have no value in common.
@@ -54,11 +50,8 @@ fn zero_if_no_null_matches<K: Key>(rule: NullEquality, columns: &KeyColumns<K>) 
 fn zero_if_disjoint<K: Key>(rule: NullEquality, columns: &KeyColumns<K>) -> Precision<u64>
     ensures { result ≡ disjoint_pair K.relation rule columns.now }
 {
-    match zero_if_ranges_apart(columns).zip(zero_if_no_null_matches(rule, columns)) {
-        Precision::Exact(_) => Precision::Exact(0),
-        Precision::Inexact(_) => Precision::Inexact(0),
-        Precision::Absent => Precision::Absent,
-    }
+    let unmatched = zero_if_no_null_matches(rule, columns);
+    zero_if_ranges_apart(columns).zip(unmatched).map(|_| 0)
 }
 
 impl<'q, K: Key> Side<'q, K> {

@@ -10,11 +10,7 @@ use stats::Precision;
 pub(crate) fn known_zero(count: Precision<u64>) -> Precision<u64>
     ensures { result ≡ zero_of count }
 {
-    match count {
-        Precision::Exact(0) => Precision::Exact(0),
-        Precision::Inexact(0) => Precision::Inexact(0),
-        _ => Precision::Absent,
-    }
+    count.filter_map(|count| if count == 0 { Some(0) } else { None })
 }
 
 /// The surer of two zeros.
