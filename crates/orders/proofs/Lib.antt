@@ -1,1 +1,2 @@
 pub mod Cheaper
+pub mod Offsets

@@ -1,12 +1,13 @@
 -- The cost of an order, and the choice of one. Assumes nothing.
-use Rattle.std.specs.Prelude.{◌≡◌, ℕ, ◌<◌, Bool, true, false, List, [], length, Some, None, fold, Option, nat_lt, slice_index_or}
+use Rattle.std.specs.Prelude.{◌≡◌, ℕ, ◌<◌, Bool, true, false, List, [], length, Some, None, Option, nat_lt, slice_index_or}
 use Rattle.stats.specs.declared.exactness.Precision.{Precision}
-use Rattle.stats.specs.declared.exactness.Precision.TheVariants.{Exact, Absent}
-use Rattle.stats.specs.Precisions.{known, total}
+use Rattle.stats.specs.declared.exactness.Precision.TheVariants.{Absent}
+use Rattle.stats.specs.Precisions.{known}
+use Rattle.stats.specs.Totals.{total_of}
 
 -- the cost of an order: the rows of its steps, added up
 abbrev pub rows_total : List (Precision ℕ) → Precision ℕ
-rows_total steps = fold total (Exact 0) steps
+rows_total steps = total_of steps
 
 -- fewer rows; a cost that is not known is dearer than each that is
 abbrev pub cheaper_by : Option ℕ → Option ℕ → Bool
@@ -25,3 +26,7 @@ pub record Cheapest (costs : List (Precision ℕ)) (i : ℕ) : Type 0 where
 abbrev pub Chosen : List (Precision ℕ) → Option ℕ → Type 0
 Chosen costs (Some i) = Cheapest costs i
 Chosen costs None = costs ≡ []
+
+-- each before place i is dearer: of several cheapest it is the first
+abbrev pub First : List (Precision ℕ) → ℕ → Type 0
+First costs i = (j : ℕ) → j < i → cheaper (slice_index_or costs i Absent) (slice_index_or costs j Absent) ≡ true

@@ -1,6 +1,6 @@
 -- The orders that the keys of the report allow, and the pairs that join them. Assumes
 -- nothing.
-use Rattle.std.specs.Prelude.{ℕ, ◌+◌, Bool, true, false, cond, ◌&&◌, ◌||◌, List, [], ◌∷◌, ◌++◌, map, ◌==◌, nat_lt}
+use Rattle.std.specs.Prelude.{ℕ, ◌+◌, Bool, true, false, cond, ◌&&◌, ◌||◌, List, [], ◌∷◌, ◌++◌, map, ◌==◌, nat_lt, codes}
 use Rattle.questions.specs.declared.types.KeySide.TheVariants.{Column}
 use Rattle.questions.specs.declared.types.KeyPair.{KeyPair}
 use Rattle.orders.specs.declared.Table.{Table}
@@ -13,6 +13,12 @@ number Payments = 1
 number Members = 2
 number Flats = 3
 number Lifts = 4
+
+abbrev pub name : Table → List ℕ
+name Payments = codes "payments"
+name Members = codes "members"
+name Flats = codes "flats"
+name Lifts = codes "lifts"
 
 -- payer and amount, number and flat, number and lift, number
 abbrev pub width : Table → ℕ
@@ -29,7 +35,7 @@ to_next Flats = 1
 to_next Lifts = 1
 
 abbrev pub tables : Order → List Table
-tables o = o.first ∷ o.second ∷ o.third ∷ o.fourth ∷ []
+tables o = o.tables
 
 -- ---- which orders the keys allow
 -- each table shares a key with the next

@@ -2,17 +2,19 @@
 //! of one.
 #![tactic(auto)]
 
-ghost use Rattle.std.specs.Prelude.{◌≡◌, [], ◌∷◌, map, nat_lt};
+ghost use Rattle.std.specs.Prelude.{◌≡◌, ◌≤◌, [], ◌∷◌, map, nat_lt, Some, IfSome};
+ghost use Rattle.std.specs.Fmt.{padded};
 ghost use Rattle.orders.specs.declared.Table.TheVariants.{Payments, Members, Flats, Lifts};
-ghost use Rattle.orders.specs.Orders.{number, width, to_next, tables, by_keys, permutations, offset, pair_with_next, pair_with_last, pair_to};
-ghost use Rattle.orders.specs.Choice.{rows_total, cheaper, Chosen};
+ghost use Rattle.orders.specs.Orders.{number, name, width, to_next, tables, by_keys, permutations, offset, pair_with_next, pair_with_last, pair_to};
+ghost use Rattle.orders.specs.Choice.{cheaper, Chosen, First};
 
 use questions::{KeyPair, KeySide};
 use stats::Precision;
+use std::fmt;
 
 /// The tables of the report. Each shares a key with the next: a payment's payer is
 /// a member, a member lives in a flat, a flat has a lift.
-#[derive(Clone, Copy)]
+#[derive(Clone, Copy, PartialEq, Eq, Debug)]
 pub enum Table {
     Payments,
     Members,
@@ -55,23 +57,9 @@ impl Table {
 }
 
 /// An order in which the tables are joined.
-#[derive(Clone, Copy)]
+#[derive(Clone, Copy, PartialEq, Eq, Debug)]
 pub struct Order {
-    pub first: Table,
-    pub second: Table,
-    pub third: Table,
-    pub fourth: Table,
-}
-
-fn in_order(first: Table, second: Table, third: Table, fourth: Table) -> Order
-    ensures { tables result ≡ (first ∷ second ∷ third ∷ fourth ∷ []) }
-{
-    Order {
-        first,
-        second,
-        third,
-        fourth,
-    }
+    pub tables: [Table; 4],
 }
 
 /// Every order in which each table shares a key with one before it.
@@ -80,36 +68,30 @@ pub fn orders() -> [Order; 8]
 {
     let (payments, members) = (Table::Payments, Table::Members);
     let (flats, lifts) = (Table::Flats, Table::Lifts);
+    let in_order = |tables: [Table; 4]| Order { tables };
     [
-        in_order(payments, members, flats, lifts),
-        in_order(members, payments, flats, lifts),
-        in_order(members, flats, payments, lifts),
-        in_order(members, flats, lifts, payments),
-        in_order(flats, members, payments, lifts),
-        in_order(flats, members, lifts, payments),
-        in_order(flats, lifts, members, payments),
-        in_order(lifts, flats, members, payments),
+        in_order([payments, members, flats, lifts]),
+        in_order([members, payments, flats, lifts]),
+        in_order([members, flats, payments, lifts]),
+        in_order([members, flats, lifts, payments]),
+        in_order([flats, members, payments, lifts]),
+        in_order([flats, members, lifts, payments]),
+        in_order([flats, lifts, members, payments]),
+        in_order([lifts, flats, members, payments]),
     ]
 }
 
 /// The columns before those of a table, where the tables are joined in an order.
 fn offset_of(order: &Order, table: Table) -> usize
-    ensures { result ≡ offset (tables order.now) table }
+    ensures columns { result ≡ offset (tables order.now) table }
+    ensures few { result ≤ 8 }
 {
-    let second = order.first.width();
-    let third = second + order.second.width();
-    let fourth = third + order.third.width();
-    if order.first.number() == table.number() {
-        0
-    } else if order.second.number() == table.number() {
-        second
-    } else if order.third.number() == table.number() {
-        third
-    } else if order.fourth.number() == table.number() {
-        fourth
-    } else {
-        fourth + order.fourth.width()
-    }
+    order
+        .tables
+        .iter()
+        .take_while(|before| **before != table)
+        .map(|before| before.width())
+        .sum()
 }
 
 /// The pair that holds a table's key equal to that of the next table, in tables
@@ -124,6 +106,7 @@ fn pair_with_next(order: &Order, table: Table, next: Table) -> KeyPair
 }
 
 /// The same with the table before.
+// One function for both would take each table's column besides, and be no plainer.
 fn pair_with_last(order: &Order, last: Table) -> KeyPair
     ensures { result ≡ pair_with_last (tables order.now) last }
 {
@@ -158,17 +141,6 @@ pub fn pair_to(order: &Order, table: Table) -> KeyPair
     }
 }
 
-/// The cost of an order: the rows of its steps, added up.
-pub fn cost(steps: &[Precision<u64>]) -> Precision<u64>
-    ensures { result ≡ rows_total steps.now }
-{
-    let mut total = Precision::Exact(0);
-    for rows in steps {
-        total = total.add(*rows);
-    }
-    total
-}
-
 /// Fewer rows; a cost that is not known is dearer than each that is.
 fn is_cheaper(a: Precision<u64>, b: Precision<u64>) -> bool
     ensures { result ≡ cheaper a b }
@@ -182,16 +154,31 @@ fn is_cheaper(a: Precision<u64>, b: Precision<u64>) -> bool
 
 /// The place of the cheapest, the first of several.
 pub fn choose(costs: &[Precision<u64>]) -> Option<usize>
-    ensures { Chosen costs.now result }
+    ensures chosen { Chosen costs.now result }
+    ensures first { IfSome result (First costs.now) }
 {
-    if costs.is_empty() {
-        return None;
-    }
-    let mut best = 0;
-    for i in 0..costs.len() {
-        if is_cheaper(costs[i], costs[best]) {
-            best = i;
+    let mut best = None;
+    for (i, cost) in costs.iter().enumerate() {
+        match best {
+            Some(b) if !is_cheaper(*cost, costs[b]) => {}
+            _ => best = Some(i),
         }
     }
-    Some(best)
+    best
+}
+
+/// `payments`, `members`, `flats` or `lifts`.
+impl fmt::Display for Table {
+    ghost output = { λ t. Some (name t) };
+
+    ghost styled_output = { λ t spec. Some (padded spec (name t)) };
+
+    fn fmt<W: fmt::Write>(&self, f: &mut fmt::Formatter<W>) -> fmt::Result {
+        f.pad(match self {
+            Table::Payments => "payments",
+            Table::Members => "members",
+            Table::Flats => "flats",
+            Table::Lifts => "lifts",
+        })
+    }
 }

@@ -1,9 +1,10 @@
 -- Row counts of several tables taken together, a table's first rows, and two
 -- tables joined by their keys. Assumes nothing.
-use Rattle.std.specs.Prelude.{ℕ, min, List, [], ◌∷◌, ℤ, Some, None, fold, Option}
+use Rattle.std.specs.Prelude.{ℕ, min, List, [], ◌∷◌, ℤ, Some, None, Option}
 use Rattle.stats.specs.declared.exactness.Precision.{Precision}
 use Rattle.stats.specs.declared.exactness.Precision.TheVariants.{Exact, Inexact, Absent}
-use Rattle.stats.specs.Precisions.{both, paired, total}
+use Rattle.stats.specs.Precisions.{both, paired}
+use Rattle.stats.specs.Totals.{total_of}
 use Rattle.stats.specs.Scaling.{scaled}
 use Rattle.stats.specs.Bytes.{rescaled_bytes}
 use Rattle.stats.specs.Trim.{trimmed}
@@ -19,7 +20,7 @@ use Rattle.planner.specs.declared.tables.Part.{Part}
 use Rattle.planner.specs.declared.tables.KeyedRows.{KeyedRows}
 
 abbrev pub rows_total : List (Precision ℕ) → Precision ℕ
-rows_total tables = fold total (Exact 0) tables
+rows_total tables = total_of tables
 
 -- a count scaled from rows to rows, where both are known
 abbrev pub scaled_by : Precision ℕ → Precision (ℕ × ℕ) → Precision ℕ

@@ -11,10 +11,9 @@ mod tables;
 use estimators::{Chain, Product, Widest};
 use keys::Whole;
 use questions::JoinType;
-use stats::{ColumnStatistics, Precision, max_distinct_count};
-use std::alloc::Global;
+use stats::{ColumnStatistics, Precision, max_distinct_count, total_of};
 use std::io;
-use tables::{KeyedRows, first_rows, join_rows, total_rows};
+use tables::{KeyedRows, first_rows, join_rows};
 
 /// A table of a house: its payments, each with the number of its payer, or its
 /// members, each with their own.
@@ -55,79 +54,82 @@ fn known_payers(
     }
 }
 
-fn print_table(rt: &HostRuntime, heap: Global, table: &Table) -> io::Result<()> {
-    let payer = table.payer.trim(table.rows);
-    let house = table.house;
-    let rows = table.rows.to_string(heap)?;
-    let bytes = table.bytes.to_string(heap)?;
-    let nulls = payer.null_count.to_string(heap)?;
-    let payers = payer.distinct_count.to_string(heap)?;
-    let most = max_distinct_count(table.rows, &payer).to_string(heap)?;
-    println!(rt; "{house:<24}{rows:>9}{bytes:>9}{nulls:>9}{payers:>9}{most:>9}")
+/// A label, and counts below the heads of their columns.
+fn print_line(rt: &HostRuntime, label: &str, counts: &[Precision<u64>]) -> io::Result<()> {
+    print!(rt; "{label:<24}")?;
+    for count in counts {
+        let count = count.to_string(rt.alloc())?;
+        print!(rt; "{count:>9}")?;
+    }
+    println!(rt)
 }
 
-fn print_part(rt: &HostRuntime, heap: Global, table: &Table) -> io::Result<()> {
-    let house = table.house;
-    let part = first_rows(table.rows, table.bytes, table.payer.null_count, 500);
-    let rows = part.rows.to_string(heap)?;
-    let bytes = part.bytes.to_string(heap)?;
-    let nulls = part.nulls.to_string(heap)?;
-    println!(rt; "{house:<24}{rows:>9}{bytes:>9}{nulls:>9}")
+fn print_tables(rt: &HostRuntime, houses: &[Table]) -> io::Result<()> {
+    println!(rt; "payments of                  rows    bytes    nulls   payers  at most")?;
+    for table in houses {
+        let payer = table.keys().key;
+        let most = max_distinct_count(table.rows, &payer);
+        let (nulls, payers) = (payer.null_count, payer.distinct_count);
+        let counts = [table.rows, table.bytes, nulls, payers, most];
+        print_line(rt, table.house, &counts)?;
+    }
+    println!(rt)
 }
 
-fn print_rows(rt: &HostRuntime, heap: Global, label: &str, rows: Precision<u64>) -> io::Result<()> {
-    let rows = rows.to_string(heap)?;
-    println!(rt; "{label:<24}{rows:>9}")
+fn print_parts(rt: &HostRuntime, houses: &[Table]) -> io::Result<()> {
+    println!(rt; "the first 500 of             rows    bytes    nulls")?;
+    for table in houses {
+        let part = first_rows(table.rows, table.bytes, table.payer.null_count, 500);
+        print_line(rt, table.house, &[part.rows, part.bytes, part.nulls])?;
+    }
+    println!(rt)
 }
 
-fn print_join(
+fn print_sums(
     rt: &HostRuntime,
-    heap: Global,
-    label: &str,
-    join_type: JoinType,
-    members: &Table,
-    payments: &Table,
+    a: Precision<u64>,
+    b: Precision<u64>,
+    c: Precision<u64>,
 ) -> io::Result<()> {
+    let sums = [
+        ("Alder and Cedar", a.add(c)),
+        ("all three", total_of(&[a, b, c])),
+        (
+            "with Dogwood, unknown",
+            total_of(&[a, b, c, Precision::Absent]),
+        ),
+        ("most of the three", a.max(b).max(c)),
+        ("fewest of the three", a.min(b).min(c)),
+        ("Alder over Cedar", a.sub(c)),
+    ];
+    for (label, rows) in sums {
+        print_line(rt, label, &[rows])?;
+    }
+    println!(rt)
+}
+
+fn print_joins(rt: &HostRuntime, members: &Table, payments: &Table) -> io::Result<()> {
+    let (left, right) = (members.keys(), payments.keys());
     let chain = Chain {
         first: Widest,
         second: Product,
     };
-    let left = members.keys();
-    let right = payments.keys();
-    let widest = join_rows(&Widest, join_type, left, right).to_string(heap)?;
-    let product = join_rows(&Product, join_type, left, right).to_string(heap)?;
-    let either = join_rows(&chain, join_type, left, right).to_string(heap)?;
-    println!(rt; "{label:<24}{widest:>9}{product:>9}{either:>9}")
-}
-
-fn print_joins(
-    rt: &HostRuntime,
-    heap: Global,
-    members: &Table,
-    payments: &Table,
-) -> io::Result<()> {
-    print_join(rt, heap, "inner", JoinType::Inner, members, payments)?;
-    print_join(rt, heap, "left", JoinType::Left, members, payments)?;
-    print_join(
-        rt,
-        heap,
-        "who paid (semi)",
-        JoinType::LeftSemi,
-        members,
-        payments,
-    )?;
-    print_join(
-        rt,
-        heap,
-        "who did not (anti)",
-        JoinType::LeftAnti,
-        members,
-        payments,
-    )
+    let joins = [
+        ("inner", JoinType::Inner),
+        ("left", JoinType::Left),
+        ("who paid (semi)", JoinType::LeftSemi),
+        ("who did not (anti)", JoinType::LeftAnti),
+    ];
+    for (label, join_type) in joins {
+        let widest = join_rows(&Widest, join_type, left, right);
+        let product = join_rows(&Product, join_type, left, right);
+        let either = join_rows(&chain, join_type, left, right);
+        print_line(rt, label, &[widest, product, either])?;
+    }
+    Ok(())
 }
 
 fn main(rt: HostRuntime) -> io::Result<()> {
-    let heap = rt.alloc();
     let alder = Table {
         house: "Alder Court",
         rows: Precision::Exact(1204),
@@ -146,39 +148,20 @@ fn main(rt: HostRuntime) -> io::Result<()> {
         bytes: Precision::Absent,
         payer: known_payers(Precision::Exact(11), Precision::Absent, 1, 5000),
     };
+    let houses = [alder, birch, cedar];
     println!(rt; "= exact, ~ an estimate, - not known")?;
     println!(rt)?;
-    println!(rt; "payments of                  rows    bytes    nulls   payers  at most")?;
-    for table in [alder, birch, cedar] {
-        print_table(&rt, heap, &table)?;
-    }
-    println!(rt)?;
-    println!(rt; "the first 500 of             rows    bytes    nulls")?;
-    for table in [alder, birch, cedar] {
-        print_part(&rt, heap, &table)?;
-    }
-    let (a, b, c) = (alder.rows, birch.rows, cedar.rows);
-    println!(rt)?;
-    print_rows(&rt, heap, "Alder and Cedar", a.add(c))?;
-    print_rows(&rt, heap, "all three", total_rows(&[a, b, c]))?;
-    print_rows(
-        &rt,
-        heap,
-        "with Dogwood, unknown",
-        total_rows(&[a, b, c, Precision::Absent]),
-    )?;
-    print_rows(&rt, heap, "most of the three", a.max(b).max(c))?;
-    print_rows(&rt, heap, "fewest of the three", a.min(b).min(c))?;
-    print_rows(&rt, heap, "Alder over Cedar", a.sub(c))?;
+    print_tables(&rt, &houses)?;
+    print_parts(&rt, &houses)?;
+    print_sums(&rt, alder.rows, birch.rows, cedar.rows)?;
+    println!(rt; "Alder's members            widest  product    chain")?;
     let members = Table {
         house: "Alder Court",
         rows: Precision::Exact(1500),
         bytes: Precision::Absent,
         payer: known_payers(Precision::Exact(0), Precision::Exact(1500), 1, 1500),
     };
-    println!(rt)?;
-    println!(rt; "Alder's members            widest  product    chain")?;
-    print_joins(&rt, heap, &members, &alder)?;
+    print_joins(&rt, &members, &alder)?;
     println!(rt)?;
     println!(rt; "numbers apart, no rows     widest  product    chain")?;
     let unknown = Table {
@@ -186,5 +169,5 @@ fn main(rt: HostRuntime) -> io::Result<()> {
         payer: known_payers(Precision::Absent, Precision::Absent, 2000, 3000),
         ..members
     };
-    print_joins(&rt, heap, &unknown, &birch)
+    print_joins(&rt, &unknown, &birch)
 }

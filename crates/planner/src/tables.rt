@@ -1,7 +1,6 @@
-//! Row counts of several tables added up, a table's first rows, and the rows of
-//! two tables joined.
+//! A table's first rows, and the rows of two tables joined.
 ghost use Rattle.std.specs.Prelude.{◌≡◌};
-ghost use Rattle.planner.specs.Tables.{rows_total, first_of, key_question, rows_answered};
+ghost use Rattle.planner.specs.Tables.{first_of, key_question, rows_answered};
 
 use keys::Whole;
 use questions::{Estimator, JoinInput, JoinQuestion, JoinType, KeyPair, KeySide, NullEquality};
@@ -13,17 +12,6 @@ pub struct Part {
     pub rows: Precision<u64>,
     pub bytes: Precision<u64>,
     pub nulls: Precision<u64>,
-}
-
-/// The rows of all tables together.
-pub fn total_rows(tables: &[Precision<u64>]) -> Precision<u64>
-    ensures { result ≡ rows_total tables.now }
-{
-    let mut total = Precision::Exact(0);
-    for rows in tables {
-        total = total.add(*rows);
-    }
-    total
 }
 
 /// The first `most` rows of a table, with their share of its bytes and nulls.
@@ -39,12 +27,12 @@ pub fn first_rows(
     Part {
         rows: part,
         bytes: rescale_byte_size(bytes, rows, part),
-        nulls: match rows.zip(part) {
-            Precision::Exact((from, to)) | Precision::Inexact((from, to)) => {
+        nulls: rows
+            .zip(part)
+            .get_value()
+            .map_or(Precision::Absent, |(from, to)| {
                 scale_subset_count(nulls, from, to)
-            }
-            Precision::Absent => Precision::Absent,
-        },
+            }),
     }
 }
 
@@ -81,8 +69,7 @@ pub fn join_rows<E: Estimator<Whole>>(
             columns: &[right.key],
         },
     };
-    match estimator.estimate(&question) {
-        Some(figure) => Precision::from(figure),
-        None => Precision::Absent,
-    }
+    estimator
+        .estimate(&question)
+        .map_or(Precision::Absent, Precision::from)
 }

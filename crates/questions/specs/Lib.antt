@@ -3,3 +3,4 @@ pub mod Figures
 pub mod Questions
 pub mod Laws
 pub mod Kept
+pub mod Names

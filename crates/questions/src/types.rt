@@ -1,7 +1,11 @@
 //! Join types, null rules and keys.
-ghost use Rattle.std.specs.Prelude.{◌≡◌};
+ghost use Rattle.std.specs.Prelude.{◌≡◌, Some};
+ghost use Rattle.std.specs.Fmt.{padded};
 ghost use Rattle.std.specs.List.{list_all};
+ghost use Rattle.questions.specs.Names.{join_name};
 ghost use Rattle.questions.specs.Types.{type_number, mirror, opposite, exchanged, key_inside, pair_inside};
+
+use std::fmt;
 
 /// The most key pairs of a join, and keys of a grouping.
 pub const MAX_PAIRS: usize = 16;
@@ -127,4 +131,26 @@ pub fn are_pairs_inside(left: usize, right: usize, on: &[KeyPair]) -> bool
     ensures { result ≡ list_all (pair_inside left right) on.now }
 {
     on.iter().all(|pair| pair.is_inside(left, right))
+}
+
+/// `inner join` is Inner, `left semi join` LeftSemi.
+impl fmt::Display for JoinType {
+    ghost output = { λ t. Some (join_name t) };
+
+    ghost styled_output = { λ t spec. Some (padded spec (join_name t)) };
+
+    fn fmt<W: fmt::Write>(&self, f: &mut fmt::Formatter<W>) -> fmt::Result {
+        f.pad(match self {
+            JoinType::Inner => "inner join",
+            JoinType::Full => "full join",
+            JoinType::Left => "left join",
+            JoinType::Right => "right join",
+            JoinType::LeftSemi => "left semi join",
+            JoinType::RightSemi => "right semi join",
+            JoinType::LeftAnti => "left anti join",
+            JoinType::RightAnti => "right anti join",
+            JoinType::LeftMark => "left mark join",
+            JoinType::RightMark => "right mark join",
+        })
+    }
 }

@@ -10,3 +10,4 @@ pub mod Least
 pub mod Laws
 pub mod Outcomes
 pub mod Reads
+pub mod Names

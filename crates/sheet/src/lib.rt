@@ -43,7 +43,7 @@ use unions::united_on;
 
 /// The head of a sheet: how many nodes stand, and how much column memory is
 /// used. Nodes are numbered from 1.
-#[derive(Clone, Copy)]
+#[derive(Clone, Copy, PartialEq, Eq, Debug)]
 pub struct Head {
     pub count: usize,
     pub used: usize,
@@ -166,7 +166,7 @@ impl Head {
 }
 
 /// A node of a sheet. Its columns are its block of column memory.
-#[derive(Clone, Copy)]
+#[derive(Clone, Copy, PartialEq, Eq, Debug)]
 pub struct Node {
     pub rows: Precision<u64>,
     pub bytes: Precision<u64>,

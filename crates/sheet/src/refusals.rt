@@ -1,6 +1,10 @@
 //! Why a call is refused.
-ghost use Rattle.std.specs.Prelude.{◌≡◌};
+ghost use Rattle.std.specs.Prelude.{◌≡◌, Some};
+ghost use Rattle.std.specs.Fmt.{padded};
+ghost use Rattle.sheet.specs.Names.{cause};
 ghost use Rattle.sheet.specs.RefusalNumbers.{refusal_number, refused_column};
+
+use std::fmt;
 
 /// The causes of a refusal, in the order of their numbers. Of several causes the
 /// smallest number is given, and the sheet stays as it was.
@@ -52,6 +56,27 @@ impl Refusal {
         match self {
             Refusal::Column(index) => Some(index),
             _ => None,
+        }
+    }
+}
+
+/// The cause in words.
+impl fmt::Display for Refusal {
+    ghost output = { λ r. Some (cause r) };
+
+    ghost styled_output = { λ r spec. Some (padded spec (cause r)) };
+
+    fn fmt<W: fmt::Write>(&self, f: &mut fmt::Formatter<W>) -> fmt::Result {
+        match self {
+            Refusal::NodeMemory => f.pad("no room for a node"),
+            Refusal::Child => f.pad("a node that does not stand"),
+            Refusal::Count => f.pad("too many keys, or no or too many nodes"),
+            Refusal::KeyIndex => f.pad("a key outside its table"),
+            Refusal::Width => f.pad("too many columns, or not as many in each"),
+            Refusal::ColumnMemory => f.pad("no room for the columns"),
+            Refusal::Rows => f.pad("too many rows"),
+            Refusal::Bytes => f.pad("too many bytes"),
+            Refusal::Column(_) => f.pad("a column that cannot be"),
         }
     }
 }

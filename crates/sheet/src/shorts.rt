@@ -5,7 +5,7 @@ ghost use Rattle.sheet.specs.Shorts.{kept_as};
 /// At most sixteen values: the first `len` of the items. Where memory holds a
 /// larger `len`, all items count.
 // A length beside the items, and no `Vec`: a node lies in memory that is handed in.
-#[derive(Clone, Copy)]
+#[derive(Clone, Copy, PartialEq, Eq, Debug)]
 pub struct Short<T> {
     pub items: [T; 16],
     pub len: usize,

@@ -75,6 +75,8 @@ impl<'a, K: Key> View<'a, K> {
         refuse_unless(self.fits_union(children), Refusal::ColumnMemory)
     }
 
+    // Rows and bytes by themselves: one sum over a closure would say no more, and
+    // its contract less plainly.
     /// The rows of all children, added up from Exact 0.
     fn rows_together(&self, children: &[usize]) -> Precision<u64>
         ensures { result ≡ fold (λ sum c. total sum (node_at (seen self.now) c).rows) (Exact 0) children.now }

@@ -3,25 +3,9 @@
 
 ghost use Rattle.std.specs.Prelude.{◌≡◌};
 ghost use Rattle.stats.specs.declared.exactness.Precision.TheVariants.{Absent};
-ghost use Rattle.sheet.specs.Sheets.{no_node};
 
 use keys::Whole;
-use sheet::{Node, Operator};
 use stats::{ColumnStatistics, Precision};
-
-/// A node of no rows and no columns.
-pub(crate) fn empty_node() -> Node
-    ensures { result ≡ no_node }
-{
-    Node {
-        rows: Precision::Exact(0),
-        bytes: Precision::Exact(0),
-        place: 0,
-        width: 0,
-        figure: None,
-        operator: Operator::Lay,
-    }
-}
 
 /// A column without ends.
 pub(crate) fn counts(

@@ -2,7 +2,7 @@
 use super::*;
 use estimators::{Chain, Product, Widest};
 use questions::{Estimator, Figure, JoinType, KeyPair, KeySide, NullEquality, kept_columns};
-use sheet::{AggregateMode, BLANK, Grouping, Head, Join, Refusal};
+use sheet::{AggregateMode, BLANK, Grouping, Head, Join, NO_NODE, Node, Operator, Refusal};
 use stats::{MAX_COUNT, MAX_NODE_BYTES};
 use std::process::Abort;
 use std::test::Fail;
@@ -15,7 +15,7 @@ const PAIR: KeyPair = KeyPair {
 };
 
 /// A sheet with memory of its own: eight nodes and forty columns.
-#[derive(Clone, Copy)]
+#[derive(Clone, Copy, PartialEq, Eq, Debug)]
 struct Desk {
     head: Head,
     nodes: [Node; 8],
@@ -26,7 +26,7 @@ impl Desk {
     fn blank() -> Desk {
         Desk {
             head: BLANK,
-            nodes: [empty_node(); 8],
+            nodes: [NO_NODE; 8],
             columns: [ColumnStatistics::unknown(); 40],
         }
     }
@@ -132,19 +132,6 @@ fn payments_and_members(rt: &impl Abort) -> Desk {
     desk
 }
 
-fn check_same(rt: &impl Abort, desk: &Desk, before: &Desk) {
-    assert_eq!(rt; desk.head.count, before.head.count);
-    assert_eq!(rt; desk.head.used, before.head.used);
-    for (node, old) in desk.nodes.iter().zip(before.nodes.iter()) {
-        assert_eq!(rt; node.rows, old.rows);
-        assert_eq!(rt; node.bytes, old.bytes);
-        assert_eq!(rt; node.place, old.place);
-        assert_eq!(rt; node.width, old.width);
-        assert_eq!(rt; node.figure, old.figure);
-    }
-    assert_eq!(rt; desk.columns, before.columns);
-}
-
 #[test]
 fn every_refusal_leaves_the_sheet_as_it_was(rt: HostRuntime) {
     let before = payments_and_members(&rt);
@@ -192,7 +179,7 @@ fn every_refusal_leaves_the_sheet_as_it_was(rt: HostRuntime) {
         desk.lay(ten, NONE, &[MEMBER, unlawful, unlawful]),
         Err(Refusal::Column(1))
     );
-    check_same(&rt, &desk, &before);
+    assert_eq!(rt; desk, before);
 }
 
 #[test]
@@ -210,7 +197,7 @@ fn a_join_holds_what_its_mirror_holds(rt: HostRuntime) {
     assert_eq!(rt; desk.lay(Precision::Exact(40), NONE, &[MEMBER]), Ok(2));
     assert_eq!(rt; desk.join(&Widest, JoinType::Inner, 1, 2, &[pair]), Ok(3));
     assert_eq!(rt; desk.join(&Widest, JoinType::Inner, 2, 1, &[back]), Ok(4));
-    for node in [desk.nodes[2], desk.nodes[3]].iter() {
+    for node in [desk.nodes[2], desk.nodes[3]] {
         assert_eq!(rt; node.rows, Precision::Inexact(62));
         assert_eq!(rt; node.bytes, NONE);
         assert_eq!(rt; node.width, 3);
@@ -414,7 +401,7 @@ fn the_smallest_of_several_causes_is_given(rt: HostRuntime) {
 }
 
 /// The number of a refusal, and 0 where there is none.
-fn number_of(answer: Result<usize, Refusal>) -> u8 {
+fn number_of<T: Drop>(answer: Result<T, Refusal>) -> u8 {
     match answer {
         Ok(_) => 0,
         Err(refusal) => refusal.number(),
@@ -425,10 +412,6 @@ fn number_of(answer: Result<usize, Refusal>) -> u8 {
 /// of node 1; each call has a copy of its own.
 fn answers(desk: &Desk) -> [u8; 8] {
     let mut copies = [*desk; 7];
-    let read = match desk.head.read(&desk.nodes, &desk.columns, 1) {
-        Ok(_) => 0,
-        Err(refusal) => refusal.number(),
-    };
     [
         number_of(copies[0].lay(NONE, NONE, &[MEMBER])),
         number_of(copies[1].join(&Widest, JoinType::Full, 1, 1, &[PAIR])),
@@ -437,7 +420,7 @@ fn answers(desk: &Desk) -> [u8; 8] {
         number_of(copies[4].union(&[1, 1])),
         number_of(copies[5].group(1, &[KeySide::Column(0)], 1)),
         number_of(copies[6].cut(1)),
-        read,
+        number_of(desk.head.read(&desk.nodes, &desk.columns, 1)),
     ]
 }
 
@@ -467,7 +450,7 @@ fn junk_in_memory_gets_an_answer(rt: HostRuntime) {
         rows: Precision::Exact(5),
         place: usize::MAX,
         width: 2,
-        ..empty_node()
+        ..NO_NODE
     };
     assert_eq!(rt; answers(&desk), [0, 6, 6, 6, 6, 6, 6, 6]);
     desk.nodes[0].place = 28;
@@ -510,7 +493,7 @@ fn short_memory_is_enough_or_refused(rt: HostRuntime) {
     );
     assert_eq!(rt; head.cut(&no_nodes, &no_columns, 0), Ok(0));
     assert_eq!(rt; head.cut(&no_nodes, &no_columns, 1), Err(Refusal::Child));
-    let mut nodes = [empty_node(); 4];
+    let mut nodes = [NO_NODE; 4];
     assert_eq!(rt;
         head.lay(&mut nodes, &mut no_columns, rows, NONE, &[]),
         Ok(1)
@@ -572,10 +555,17 @@ fn a_limit_skips_and_fetches(rt: HostRuntime) {
 fn a_cross_join_multiplies(rt: HostRuntime) {
     let mut desk = payments_and_members(&rt);
     assert_eq!(rt; desk.cross(2, 1), Ok(3));
-    assert_eq!(rt; desk.nodes[2].rows, Precision::Exact(4000));
-    assert_eq!(rt; desk.nodes[2].bytes, NONE);
-    assert_eq!(rt; desk.nodes[2].place, 3);
-    assert_eq!(rt; desk.nodes[2].width, 3);
+    assert_eq!(rt;
+        desk.nodes[2],
+        Node {
+            rows: Precision::Exact(4000),
+            bytes: NONE,
+            place: 3,
+            width: 3,
+            figure: None,
+            operator: Operator::Cross { left: 2, right: 1 },
+        }
+    );
     assert_eq!(rt; desk.columns[3], MEMBER);
     assert_eq!(rt; desk.columns[4], PAYER);
     assert_eq!(rt; desk.columns[5], AMOUNT);
@@ -653,10 +643,10 @@ fn modes_and_sets_decide_whether_groups_are_counted(rt: HostRuntime) {
         (AggregateMode::FinalPartitioned, 1, Precision::Inexact(12)),
         (AggregateMode::SinglePartitioned, 2, NONE),
     ];
-    for (mode, sets, rows) in cases.iter() {
+    for (mode, sets, rows) in cases {
         let grouping = Grouping {
-            mode: *mode,
-            sets: *sets,
+            mode,
+            sets,
             extras: 0,
             child: 1,
             by: &[KeySide::Column(0)],
@@ -666,7 +656,7 @@ fn modes_and_sets_decide_whether_groups_are_counted(rt: HostRuntime) {
                 .group(&mut desk.nodes, &mut desk.columns, &grouping),
             Ok(2)
         );
-        assert_eq!(rt; desk.nodes[1].rows, *rows);
+        assert_eq!(rt; desk.nodes[1].rows, rows);
         assert_eq!(rt; desk.cut(1), Ok(1));
     }
 }
@@ -677,20 +667,18 @@ fn a_cut_frees_memory(rt: HostRuntime) {
     assert_eq!(rt; desk.limit(1, 0, None), Ok(3));
     let before = desk;
     assert_eq!(rt; desk.cut(3), Ok(3));
-    check_same(&rt, &desk, &before);
+    assert_eq!(rt; desk, before);
     assert_eq!(rt; desk.cut(4), Err(Refusal::Child));
-    check_same(&rt, &desk, &before);
+    assert_eq!(rt; desk, before);
     assert_eq!(rt; desk.cut(1), Ok(1));
-    assert_eq!(rt; desk.head.count, 1);
-    assert_eq!(rt; desk.head.used, 2);
+    assert_eq!(rt; desk.head, Head { count: 1, used: 2 });
     assert_eq!(rt; desk.limit(2, 0, None), Err(Refusal::Child));
     assert_eq!(rt; desk.union(&[1]), Ok(2));
     assert_eq!(rt; desk.nodes[1].place, 2);
     assert_eq!(rt; desk.columns[2], ColumnStatistics::unknown());
     assert_eq!(rt; desk.head.used, 4);
     assert_eq!(rt; desk.cut(0), Ok(0));
-    assert_eq!(rt; desk.head.count, 0);
-    assert_eq!(rt; desk.head.used, 0);
+    assert_eq!(rt; desk.head, BLANK);
     assert_eq!(rt; desk.cut(1), Err(Refusal::Child));
     assert_eq!(rt; desk.lay(Precision::Exact(40), NONE, &[MEMBER]), Ok(1));
     assert_eq!(rt; desk.nodes[0].place, 0);
@@ -700,7 +688,7 @@ fn a_cut_frees_memory(rt: HostRuntime) {
 #[test]
 fn a_full_sheet_can_be_read(rt: HostRuntime) -> Result<(), Fail> {
     let mut head = BLANK;
-    let mut nodes = [empty_node(); 2];
+    let mut nodes = [NO_NODE; 2];
     let mut columns: [ColumnStatistics<Whole>; 4] = [ColumnStatistics::unknown(); 4];
     let (rows, bytes) = (Precision::Exact(100), Precision::Exact(1000));
     assert_eq!(rt;
@@ -728,35 +716,29 @@ fn a_full_sheet_can_be_read(rt: HostRuntime) -> Result<(), Fail> {
     assert!(rt; limited.columns.len() == 2);
     assert_eq!(rt; limited.columns[0].null_count, Precision::Inexact(10));
     assert_eq!(rt; limited.columns[0].distinct_count, Precision::Inexact(0));
-    match limited.operator {
-        Operator::Limit { child, skip, fetch } => {
-            assert_eq!(rt; child, 1);
-            assert_eq!(rt; skip, 90);
-            assert_eq!(rt; fetch, Some(20));
-            Ok(())
+    assert_eq!(rt;
+        limited.operator,
+        Operator::Limit {
+            child: 1,
+            skip: 90,
+            fetch: Some(20),
         }
-        _ => Err(Fail::new("no limit")),
-    }
+    );
+    Ok(())
 }
 
 #[test]
-fn a_number_that_does_not_stand_is_not_read(rt: HostRuntime) -> Result<(), Fail> {
+fn a_number_that_does_not_stand_is_not_read(rt: HostRuntime) {
     let desk = payments_and_members(&rt);
     let blank = Desk::blank();
     assert!(rt; desk.head.read(&desk.nodes, &desk.columns, 2).is_ok());
-    for n in [0, 3, 8, 9, usize::MAX].iter() {
-        match desk.head.read(&desk.nodes, &desk.columns, *n) {
-            Ok(_) => return Err(Fail::new("read")),
-            Err(refusal) => assert_eq!(rt; refusal.number(), 2),
-        }
+    for n in [0, 3, 8, 9, usize::MAX] {
+        assert_eq!(rt; number_of(desk.head.read(&desk.nodes, &desk.columns, n)), 2);
     }
-    match blank.head.read(&blank.nodes, &blank.columns, 1) {
-        Ok(_) => Err(Fail::new("read")),
-        Err(refusal) => {
-            assert_eq!(rt; refusal, Refusal::Child);
-            Ok(())
-        },
-    }
+    assert_eq!(rt;
+        blank.head.read(&blank.nodes, &blank.columns, 1).err(),
+        Some(Refusal::Child)
+    );
 }
 
 /// Lays so many tables of one row and no columns.
@@ -776,7 +758,7 @@ fn lay_many(
 #[test]
 fn the_257th_node_is_refused(rt: HostRuntime) -> Result<(), Fail> {
     let mut head = BLANK;
-    let mut nodes = [empty_node(); 300];
+    let mut nodes = [NO_NODE; 300];
     let mut columns: [ColumnStatistics<Whole>; 0] = [];
     let rows = Precision::Exact(1);
     lay_many(&rt, &mut head, &mut nodes, &mut columns, 256);

@@ -10,19 +10,9 @@ ghost use Rattle.sheets.specs.Owned.{held, Fresh};
 
 use keys::Key;
 use questions::Estimator;
-use sheet::{BLANK, Grouping, Head, Join, Node, NodeView, Operator, Refusal};
+use sheet::{BLANK, Grouping, Head, Join, NO_NODE, Node, NodeView, Refusal};
 use stats::{ColumnStatistics, Precision};
 use std::alloc::{AllocError, Allocator};
-
-/// What node memory holds before a node is put there.
-const UNUSED: Node = Node {
-    rows: Precision::Exact(0),
-    bytes: Precision::Exact(0),
-    place: 0,
-    width: 0,
-    figure: None,
-    operator: Operator::Lay,
-};
 
 /// A sheet with memory for a stated number of nodes and of columns. Its numbers
 /// and refusals are those of the calls of `Head`.
@@ -45,7 +35,7 @@ impl<K: Key, E: Estimator<K> + Copy, A: Allocator + Copy> Sheet<K, E, A> {
         ensures { IfOk result (λ s. Fresh nodes columns estimator s) }
     {
         let mut node_memory = Vec::new(heap);
-        node_memory.resize(nodes, UNUSED)?;
+        node_memory.resize(nodes, NO_NODE)?;
         let mut column_memory = Vec::new(heap);
         column_memory.resize(columns, ColumnStatistics::unknown())?;
         Ok(Sheet {
@@ -67,9 +57,8 @@ impl<K: Key, E: Estimator<K> + Copy, A: Allocator + Copy> Sheet<K, E, A> {
         ensures keeps { Keeps K.relation (E.Estimator.figure self.old.estimator) (held self.old) (held self.new) }
         ensures estimator { self.new.estimator ≡ self.old.estimator }
     {
-        let nodes = self.nodes.as_mut_slice();
-        let columns = self.columns.as_mut_slice();
-        self.head.lay(nodes, columns, rows, bytes, laid)
+        self.head
+            .lay(&mut self.nodes, &mut self.columns, rows, bytes, laid)
     }
 
     /// Joins two nodes by keys. Types 0 to 7 ask the estimator.
@@ -78,9 +67,8 @@ impl<K: Key, E: Estimator<K> + Copy, A: Allocator + Copy> Sheet<K, E, A> {
         ensures keeps { Keeps K.relation (E.Estimator.figure self.old.estimator) (held self.old) (held self.new) }
         ensures estimator { self.new.estimator ≡ self.old.estimator }
     {
-        let nodes = self.nodes.as_mut_slice();
-        let columns = self.columns.as_mut_slice();
-        self.head.join(nodes, columns, &self.estimator, join)
+        self.head
+            .join(&mut self.nodes, &mut self.columns, &self.estimator, join)
     }
 
     /// Puts every row of one node beside every row of another.
@@ -89,9 +77,8 @@ impl<K: Key, E: Estimator<K> + Copy, A: Allocator + Copy> Sheet<K, E, A> {
         ensures keeps { Keeps K.relation (E.Estimator.figure self.old.estimator) (held self.old) (held self.new) }
         ensures estimator { self.new.estimator ≡ self.old.estimator }
     {
-        let nodes = self.nodes.as_mut_slice();
-        let columns = self.columns.as_mut_slice();
-        self.head.cross_join(nodes, columns, left, right)
+        self.head
+            .cross_join(&mut self.nodes, &mut self.columns, left, right)
     }
 
     /// Skips rows of a node, and fetches at most so many of the others.
@@ -100,9 +87,8 @@ impl<K: Key, E: Estimator<K> + Copy, A: Allocator + Copy> Sheet<K, E, A> {
         ensures keeps { Keeps K.relation (E.Estimator.figure self.old.estimator) (held self.old) (held self.new) }
         ensures estimator { self.new.estimator ≡ self.old.estimator }
     {
-        let nodes = self.nodes.as_mut_slice();
-        let columns = self.columns.as_mut_slice();
-        self.head.limit(nodes, columns, child, skip, fetch)
+        self.head
+            .limit(&mut self.nodes, &mut self.columns, child, skip, fetch)
     }
 
     /// Puts the rows of 1 to 8 nodes one after the other.
@@ -111,9 +97,8 @@ impl<K: Key, E: Estimator<K> + Copy, A: Allocator + Copy> Sheet<K, E, A> {
         ensures keeps { Keeps K.relation (E.Estimator.figure self.old.estimator) (held self.old) (held self.new) }
         ensures estimator { self.new.estimator ≡ self.old.estimator }
     {
-        let nodes = self.nodes.as_mut_slice();
-        let columns = self.columns.as_mut_slice();
-        self.head.union(nodes, columns, children)
+        self.head
+            .union(&mut self.nodes, &mut self.columns, children)
     }
 
     /// Groups a node's rows by keys.
@@ -122,9 +107,8 @@ impl<K: Key, E: Estimator<K> + Copy, A: Allocator + Copy> Sheet<K, E, A> {
         ensures keeps { Keeps K.relation (E.Estimator.figure self.old.estimator) (held self.old) (held self.new) }
         ensures estimator { self.new.estimator ≡ self.old.estimator }
     {
-        let nodes = self.nodes.as_mut_slice();
-        let columns = self.columns.as_mut_slice();
-        self.head.group(nodes, columns, grouping)
+        self.head
+            .group(&mut self.nodes, &mut self.columns, grouping)
     }
 
     /// Keeps nodes 1 to `n`; node and column memory after them is used again.
@@ -133,9 +117,7 @@ impl<K: Key, E: Estimator<K> + Copy, A: Allocator + Copy> Sheet<K, E, A> {
         ensures keeps { Keeps K.relation (E.Estimator.figure self.old.estimator) (held self.old) (held self.new) }
         ensures estimator { self.new.estimator ≡ self.old.estimator }
     {
-        let nodes = self.nodes.as_slice();
-        let columns = self.columns.as_slice();
-        self.head.cut(nodes, columns, n)
+        self.head.cut(&self.nodes, &self.columns, n)
     }
 
     /// What a node says of its table.
@@ -144,8 +126,6 @@ impl<K: Key, E: Estimator<K> + Copy, A: Allocator + Copy> Sheet<K, E, A> {
         ensures least { Least (read_clear K.relation (held self.now) n) (shown result) }
         ensures keeps { Keeps K.relation (E.Estimator.figure self.now.estimator) (held self.now) (held self.now) }
     {
-        let nodes = self.nodes.as_slice();
-        let columns = self.columns.as_slice();
-        self.head.read(nodes, columns, n)
+        self.head.read(&self.nodes, &self.columns, n)
     }
 }

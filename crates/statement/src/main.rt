@@ -5,17 +5,23 @@
 
 use estimators::{Chain, Product, Widest};
 use keys::Whole;
-use orders::{Order, Table, choose, cost, orders, pair_to};
-use questions::{Figure, JoinType, KeyPair, KeySide, NullEquality};
-use sheet::{AggregateMode, Grouping, Join, Operator, Refusal};
+use orders::{Order, Table, choose, orders, pair_to};
+use questions::{JoinType, KeyPair, KeySide, NullEquality};
+use sheet::{AggregateMode, Grouping, Join, Refusal};
 use sheets::Sheet;
-use stats::{ColumnStatistics, Precision};
+use stats::{ColumnStatistics, Precision, total_of};
 use std::alloc::Global;
+use std::fmt::Display;
 use std::io;
 
-type Report = Sheet<Whole, Chain<Widest, Product>, Global>;
-
 const NONE: Precision<u64> = Precision::Absent;
+
+/// The report as it is planned: its sheet, and where it is printed.
+#[derive(Drop)]
+struct Report<'a> {
+    rt: &'a HostRuntime,
+    sheet: Sheet<Whole, Chain<Widest, Product>, Global>,
+}
 
 /// A column of numbers from 1 on.
 fn numbers(nulls: u64, distincts: u64, highest: i64) -> ColumnStatistics<Whole> {
@@ -28,284 +34,215 @@ fn numbers(nulls: u64, distincts: u64, highest: i64) -> ColumnStatistics<Whole> 
     }
 }
 
-fn table_name(table: Table) -> &'static str {
-    match table {
-        Table::Payments => "payments",
-        Table::Members => "members",
-        Table::Flats => "flats",
-        Table::Lifts => "lifts",
+impl Report<'_> {
+    /// Counts below the heads of their columns, to the end of the line.
+    fn print_counts(&self, counts: &[Precision<u64>]) -> io::Result<()> {
+        for count in counts {
+            let count = count.to_string(self.rt.alloc())?;
+            print!(self.rt; "{count:>9}")?;
+        }
+        println!(self.rt)
     }
-}
 
-fn join_name(join_type: JoinType) -> &'static str {
-    match join_type {
-        JoinType::Inner => "inner join",
-        JoinType::Full => "full join",
-        JoinType::Left => "left join",
-        JoinType::Right => "right join",
-        JoinType::LeftSemi => "left semi join",
-        JoinType::RightSemi => "right semi join",
-        JoinType::LeftAnti => "left anti join",
-        JoinType::RightAnti => "right anti join",
-        JoinType::LeftMark => "left mark join",
-        JoinType::RightMark => "right mark join",
+    fn print_refusal(&self, label: impl Display + Copy, refusal: Refusal) -> io::Result<()> {
+        let number = refusal.number();
+        println!(self.rt; "     {label:<26}refused, {number}: {refusal}")
     }
-}
 
-fn operator_name(operator: Operator) -> &'static str {
-    match operator {
-        Operator::Lay => "table",
-        Operator::Join { join_type, .. } => join_name(join_type),
-        Operator::Cross { .. } => "cross join",
-        Operator::Limit { .. } => "limit",
-        Operator::Union { .. } => "union",
-        Operator::Group { .. } => "group",
+    /// Prints a node: number, what it is for, operator, rows, bytes and figure.
+    fn print_node(
+        &self,
+        label: impl Display + Copy,
+        answer: Result<usize, Refusal>,
+    ) -> io::Result<()> {
+        let read = answer.and_then(|number| Ok((number, self.sheet.read(number)?)));
+        let (number, node) = match read {
+            Ok(read) => read,
+            Err(refusal) => return self.print_refusal(label, refusal),
+        };
+        let operator = node.operator;
+        let figure = node.figure.map_or(NONE, Precision::from);
+        print!(self.rt; "{number:>3}  {label:<26}{operator:<16}")?;
+        self.print_counts(&[node.rows, node.bytes, figure])
     }
-}
 
-fn cause_of(refusal: Refusal) -> &'static str {
-    match refusal {
-        Refusal::NodeMemory => "no room for a node",
-        Refusal::Child => "a node that does not stand",
-        Refusal::Count => "too many keys, or no or too many nodes",
-        Refusal::KeyIndex => "a key outside its table",
-        Refusal::Width => "too many columns, or not as many in each",
-        Refusal::ColumnMemory => "no room for the columns",
-        Refusal::Rows => "too many rows",
-        Refusal::Bytes => "too many bytes",
-        Refusal::Column(_) => "a column that cannot be",
+    fn rows_of(&self, answer: Result<usize, Refusal>) -> Precision<u64> {
+        answer
+            .and_then(|number| self.sheet.read(number))
+            .map_or(NONE, |node| node.rows)
     }
-}
 
-fn print_refusal(rt: &HostRuntime, label: &str, refusal: Refusal) -> io::Result<()> {
-    let number = refusal.number();
-    let cause = cause_of(refusal);
-    println!(rt; "     {label:<26}refused, {number}: {cause}")
-}
-
-/// Prints a node: number, what it is for, operator, rows, bytes and figure.
-fn print_node(
-    rt: &HostRuntime,
-    heap: Global,
-    sheet: &Report,
-    label: &str,
-    answer: Result<usize, Refusal>,
-) -> io::Result<()> {
-    let number = match answer {
-        Ok(number) => number,
-        Err(refusal) => return print_refusal(rt, label, refusal),
-    };
-    let node = match sheet.read(number) {
-        Ok(node) => node,
-        Err(refusal) => return print_refusal(rt, label, refusal),
-    };
-    let operator = operator_name(node.operator);
-    let rows = node.rows.to_string(heap)?;
-    let bytes = node.bytes.to_string(heap)?;
-    let figure = match node.figure {
-        Some(figure) => Precision::from(figure),
-        None => NONE,
-    };
-    let figure = figure.to_string(heap)?;
-    println!(rt; "{number:>3}  {label:<26}{operator:<16}{rows:>9}{bytes:>9}{figure:>9}")
-}
-
-fn rows_of(sheet: &Report, answer: Result<usize, Refusal>) -> Precision<u64> {
-    let Ok(number) = answer else {
-        return NONE;
-    };
-    match sheet.read(number) {
-        Ok(node) => node.rows,
-        Err(_) => NONE,
+    fn join_by(
+        &mut self,
+        join_type: JoinType,
+        left: usize,
+        right: usize,
+        pair: KeyPair,
+    ) -> Result<usize, Refusal> {
+        self.sheet.join(&Join {
+            join_type,
+            null_equality: NullEquality::NullEqualsNothing,
+            left,
+            right,
+            on: &[pair],
+        })
     }
-}
 
-fn join_by(
-    sheet: &mut Report,
-    join_type: JoinType,
-    left: usize,
-    right: usize,
-    pair: KeyPair,
-) -> Result<usize, Refusal> {
-    let on = [pair];
-    sheet.join(&Join {
-        join_type,
-        null_equality: NullEquality::NullEqualsNothing,
-        left,
-        right,
-        on: &on,
-    })
-}
-
-/// Joins a table to the node that has those before it in an order.
-fn join_next(
-    sheet: &mut Report,
-    order: &Order,
-    before: Result<usize, Refusal>,
-    table: Table,
-) -> Result<usize, Refusal> {
-    let pair = pair_to(order, table);
-    join_by(sheet, JoinType::Inner, before?, table.number(), pair)
-}
-
-/// Prints the rows of an order's steps and its cost, and leaves the four tables.
-fn print_order(
-    rt: &HostRuntime,
-    heap: Global,
-    sheet: &mut Report,
-    order: &Order,
-) -> io::Result<Precision<u64>> {
-    let first = join_next(sheet, order, Ok(order.first.number()), order.second);
-    let second = join_next(sheet, order, first, order.third);
-    let third = join_next(sheet, order, second, order.fourth);
-    let steps = [
-        rows_of(sheet, first),
-        rows_of(sheet, second),
-        rows_of(sheet, third),
-    ];
-    let all = cost(&steps);
-    let (a, b) = (table_name(order.first), table_name(order.second));
-    let (c, d) = (table_name(order.third), table_name(order.fourth));
-    let one = steps[0].to_string(heap)?;
-    let two = steps[1].to_string(heap)?;
-    let three = steps[2].to_string(heap)?;
-    let sum = all.to_string(heap)?;
-    println!(rt; "     {a:<9}{b:<9}{c:<9}{d:<9}{one:>9}{two:>9}{three:>9}{sum:>9}")?;
-    if let Err(refusal) = sheet.cut(4) {
-        print_refusal(rt, "cut", refusal)?;
+    /// Joins a table to the node that has those before it in an order.
+    fn join_next(
+        &mut self,
+        order: &Order,
+        before: Result<usize, Refusal>,
+        table: Table,
+    ) -> Result<usize, Refusal> {
+        let pair = pair_to(order, table);
+        self.join_by(JoinType::Inner, before?, table.number(), pair)
     }
-    Ok(all)
-}
 
-/// Prints every order, and gives the one with the fewest rows.
-fn print_orders(rt: &HostRuntime, heap: Global, sheet: &mut Report) -> io::Result<Order> {
-    let all = orders();
-    let mut costs = [NONE; 8];
-    for i in 0..8 {
-        costs[i] = print_order(rt, heap, sheet, &all[i])?;
+    /// Joins the tables in an order: the nodes of its three steps.
+    fn join_all(&mut self, order: &Order) -> [Result<usize, Refusal>; 3] {
+        let [first, second, third, fourth] = order.tables;
+        let one = self.join_next(order, Ok(first.number()), second);
+        let two = self.join_next(order, one, third);
+        let three = self.join_next(order, two, fourth);
+        [one, two, three]
     }
-    match choose(&costs) {
-        Some(i) if i < 8 => Ok(all[i]),
-        _ => Ok(all[0]),
+
+    /// Prints the rows of an order's steps and its cost, which is their sum, and
+    /// leaves the four tables.
+    fn print_order(&mut self, order: &Order) -> io::Result<Precision<u64>> {
+        let [one, two, three] = self.join_all(order).map(|answer| self.rows_of(answer));
+        let cost = total_of(&[one, two, three]);
+        let [a, b, c, d] = order.tables;
+        print!(self.rt; "     {a:<9}{b:<9}{c:<9}{d:<9}")?;
+        self.print_counts(&[one, two, three, cost])?;
+        if let Err(refusal) = self.sheet.cut(4) {
+            self.print_refusal("cut", refusal)?;
+        }
+        Ok(cost)
     }
-}
 
-fn lay_tables(sheet: &mut Report) -> [Result<usize, Refusal>; 4] {
-    let payments = [numbers(150, 760, 900), ColumnStatistics::unknown()];
-    let members = [numbers(0, 900, 900), numbers(20, 640, 700)];
-    let flats = [numbers(0, 700, 700), numbers(210, 12, 12)];
-    let lifts = [numbers(0, 12, 12)];
-    let exact = Precision::Exact(384000);
-    [
-        sheet.lay(Precision::Exact(9600), exact, &payments),
-        sheet.lay(Precision::Exact(900), Precision::Exact(54000), &members),
-        sheet.lay(Precision::Exact(700), NONE, &flats),
-        sheet.lay(Precision::Exact(12), NONE, &lifts),
-    ]
-}
-
-/// Joins the tables in the chosen order, and prints each step.
-fn print_statement(
-    rt: &HostRuntime,
-    heap: Global,
-    sheet: &mut Report,
-    order: &Order,
-) -> io::Result<Result<usize, Refusal>> {
-    let first = join_next(sheet, order, Ok(order.first.number()), order.second);
-    print_node(rt, heap, sheet, table_name(order.second), first)?;
-    let second = join_next(sheet, order, first, order.third);
-    print_node(rt, heap, sheet, table_name(order.third), second)?;
-    let third = join_next(sheet, order, second, order.fourth);
-    print_node(rt, heap, sheet, table_name(order.fourth), third)?;
-    Ok(third)
-}
-
-/// Who paid and who did not: together they are all members.
-fn print_payers(rt: &HostRuntime, heap: Global, sheet: &mut Report) -> io::Result<()> {
-    let pair = KeyPair {
-        left: KeySide::Column(0),
-        right: KeySide::Column(0),
-    };
-    let (members, payments) = (Table::Members.number(), Table::Payments.number());
-    let paid = join_by(sheet, JoinType::LeftSemi, members, payments, pair);
-    print_node(rt, heap, sheet, "who paid", paid)?;
-    let unpaid = join_by(sheet, JoinType::LeftAnti, members, payments, pair);
-    print_node(rt, heap, sheet, "who did not", unpaid)?;
-    let sum = rows_of(sheet, paid).add(rows_of(sheet, unpaid));
-    let sum = sum.to_string(heap)?;
-    println!(rt; "     {:<42}{sum:>9}", "both together")
-}
-
-/// A page of the statement, the payments of each payer, and those of two houses.
-fn print_parts(
-    rt: &HostRuntime,
-    heap: Global,
-    sheet: &mut Report,
-    statement: Result<usize, Refusal>,
-) -> io::Result<()> {
-    if let Ok(statement) = statement {
-        let page = sheet.limit(statement, 0, Some(100));
-        print_node(rt, heap, sheet, "its first page", page)?;
+    /// Prints every order, and gives the one with the fewest rows.
+    fn print_orders(&mut self) -> io::Result<Order> {
+        let all = orders();
+        let mut costs = Vec::new(self.rt.alloc());
+        for order in all {
+            costs.push(self.print_order(&order)?)?;
+        }
+        let chosen = choose(&costs).and_then(|i| all.get(i).copied());
+        Ok(chosen.unwrap_or(all[0]))
     }
-    let payments = Table::Payments.number();
-    let by = [KeySide::Column(0)];
-    let payers = sheet.group(&Grouping {
-        mode: AggregateMode::Single,
-        sets: 1,
-        extras: 1,
-        child: payments,
-        by: &by,
-    });
-    print_node(rt, heap, sheet, "a sum for each payer", payers)?;
-    let other = [numbers(12, 300, 410), ColumnStatistics::unknown()];
-    let house = sheet.lay(Precision::Inexact(4100), Precision::Inexact(164000), &other);
-    print_node(rt, heap, sheet, "payments of Birch Row", house)?;
-    if let Ok(house) = house {
-        let both = sheet.union(&[payments, house]);
-        print_node(rt, heap, sheet, "payments of both houses", both)?;
+
+    /// Lays the tables of the report, each with its label.
+    fn lay_tables(&mut self) -> [(&'static str, Result<usize, Refusal>); 4] {
+        let payments = [numbers(150, 760, 900), ColumnStatistics::unknown()];
+        let members = [numbers(0, 900, 900), numbers(20, 640, 700)];
+        let flats = [numbers(0, 700, 700), numbers(210, 12, 12)];
+        let lifts = [numbers(0, 12, 12)];
+        let exact = Precision::Exact;
+        [
+            (
+                "payments of Alder Court",
+                self.sheet.lay(exact(9600), exact(384000), &payments),
+            ),
+            (
+                "members",
+                self.sheet.lay(exact(900), exact(54000), &members),
+            ),
+            ("flats", self.sheet.lay(exact(700), NONE, &flats)),
+            ("lifts", self.sheet.lay(exact(12), NONE, &lifts)),
+        ]
     }
-    Ok(())
+
+    /// Joins the tables in the chosen order, and prints each step.
+    fn print_statement(&mut self, order: &Order) -> io::Result<Result<usize, Refusal>> {
+        let [one, two, three] = self.join_all(order);
+        let [_, second, third, fourth] = order.tables;
+        self.print_node(second, one)?;
+        self.print_node(third, two)?;
+        self.print_node(fourth, three)?;
+        Ok(three)
+    }
+
+    /// Who paid and who did not: together they are all members.
+    fn print_payers(&mut self) -> io::Result<()> {
+        let pair = KeyPair {
+            left: KeySide::Column(0),
+            right: KeySide::Column(0),
+        };
+        let (members, payments) = (Table::Members.number(), Table::Payments.number());
+        let paid = self.join_by(JoinType::LeftSemi, members, payments, pair);
+        self.print_node("who paid", paid)?;
+        let unpaid = self.join_by(JoinType::LeftAnti, members, payments, pair);
+        self.print_node("who did not", unpaid)?;
+        print!(self.rt; "     {:<42}", "both together")?;
+        self.print_counts(&[self.rows_of(paid).add(self.rows_of(unpaid))])
+    }
+
+    /// A page of the statement, the payments of each payer, and those of two houses.
+    fn print_parts(&mut self, statement: Result<usize, Refusal>) -> io::Result<()> {
+        if let Ok(statement) = statement {
+            let page = self.sheet.limit(statement, 0, Some(100));
+            self.print_node("its first page", page)?;
+        }
+        let payments = Table::Payments.number();
+        let payers = self.sheet.group(&Grouping {
+            mode: AggregateMode::Single,
+            sets: 1,
+            extras: 1,
+            child: payments,
+            by: &[KeySide::Column(0)],
+        });
+        self.print_node("a sum for each payer", payers)?;
+        let other = [numbers(12, 300, 410), ColumnStatistics::unknown()];
+        let house = self.sheet.lay(Precision::Inexact(4100), Precision::Inexact(164000), &other);
+        self.print_node("payments of Birch Row", house)?;
+        if let Ok(house) = house {
+            let both = self.sheet.union(&[payments, house]);
+            self.print_node("payments of both houses", both)?;
+        }
+        Ok(())
+    }
+
+    /// A call that is refused, and the sheet as before: the next node has the next
+    /// number.
+    fn print_refused(&mut self) -> io::Result<()> {
+        let pair = KeyPair {
+            left: KeySide::Column(7),
+            right: KeySide::Column(0),
+        };
+        let lost = self.join_by(JoinType::Inner, 1, 2, pair);
+        self.print_node("joined by its 8th column", lost)?;
+        let page = self.sheet.limit(1, 9000, None);
+        self.print_node("payments after 9000", page)
+    }
 }
 
 fn main(rt: HostRuntime) -> io::Result<()> {
-    let heap = rt.alloc();
     let chain = Chain {
         first: Widest,
         second: Product,
     };
-    let mut sheet: Report = Sheet::new(heap, 64, 256, chain)?;
+    let mut report = Report {
+        rt: &rt,
+        sheet: Sheet::new(rt.alloc(), 64, 256, chain)?,
+    };
     println!(rt; "= exact, ~ an estimate, - not known")?;
     println!(rt)?;
     println!(rt; "     tables                    operator             rows    bytes   figure")?;
-    let [payments, members, flats, lifts] = lay_tables(&mut sheet);
-    print_node(&rt, heap, &sheet, "payments of Alder Court", payments)?;
-    print_node(&rt, heap, &sheet, "members", members)?;
-    print_node(&rt, heap, &sheet, "flats", flats)?;
-    print_node(&rt, heap, &sheet, "lifts", lifts)?;
+    for (label, table) in report.lay_tables() {
+        report.print_node(label, table)?;
+    }
     println!(rt)?;
     println!(rt; "     orders                                 step 1   step 2   step 3     cost")?;
-    let order = print_orders(&rt, heap, &mut sheet)?;
-    let (a, b) = (table_name(order.first), table_name(order.second));
-    let (c, d) = (table_name(order.third), table_name(order.fourth));
+    let order = report.print_orders()?;
+    let [a, b, c, d] = order.tables;
     println!(rt; "     chosen, since no order has fewer rows in all: {a}, {b}, {c}, {d}")?;
     println!(rt)?;
     println!(rt; "     the statement             operator             rows    bytes   figure")?;
-    let statement = print_statement(&rt, heap, &mut sheet, &order)?;
-    print_payers(&rt, heap, &mut sheet)?;
-    print_parts(&rt, heap, &mut sheet, statement)?;
+    let statement = report.print_statement(&order)?;
+    report.print_payers()?;
+    report.print_parts(statement)?;
     println!(rt)?;
-    print_refused(&rt, heap, &mut sheet)
-}
-
-/// A call that is refused, and the sheet as before: the next node has the next
-/// number.
-fn print_refused(rt: &HostRuntime, heap: Global, sheet: &mut Report) -> io::Result<()> {
-    let pair = KeyPair {
-        left: KeySide::Column(7),
-        right: KeySide::Column(0),
-    };
-    let lost = join_by(sheet, JoinType::Inner, 1, 2, pair);
-    print_node(rt, heap, sheet, "joined by its 8th column", lost)?;
-    let page = sheet.limit(1, 9000, None);
-    print_node(rt, heap, sheet, "payments after 9000", page)
+    report.print_refused()
 }

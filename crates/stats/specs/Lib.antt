@@ -5,3 +5,4 @@ pub mod Trim
 pub mod Scaling
 pub mod Distincts
 pub mod Bytes
+pub mod Totals

@@ -8,6 +8,7 @@ mod distincts;
 mod exactness;
 mod limits;
 mod scaling;
+mod totals;
 
 pub use bytes::rescale_byte_size;
 pub use columns::{ColumnStatistics, all_sound};
@@ -15,6 +16,7 @@ pub use distincts::max_distinct_count;
 pub use exactness::Precision;
 pub use limits::{MAX_COLUMN_BYTES, MAX_COUNT, MAX_NODE_BYTES};
 pub use scaling::scale_subset_count;
+pub use totals::total_of;
 
 #[cfg(test)]
 mod tests;

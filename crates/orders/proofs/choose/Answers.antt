@@ -1,23 +1,22 @@
-use Rattle.std.proofs.Common.{◌≡◌, ℕ, ◌+◌, ◌<◌, false, length, get_or, sym, ◌∙◌, subst}
-use Rattle.std.proofs.lemmas.List.{nil_from_length}
-use Rattle.std.proofs.lemmas.Bool.{eqb-true}
-use Rattle.stats.specs.declared.exactness.Precision.TheVariants.{Exact, Absent}
-use Rattle.orders.specs.Choice.{cheaper}
-use Rattle.orders.proofs.Cheaper.{best_new, best_stays, read_cheaper}
-use Rattle.orders.proofs.choose.Goals.{then-is_cheaper, else-is_cheaper}
+use Rattle.std.proofs.Common.{◌≡◌, ℕ, ◌+◌, Some, sym, ◌∙◌, subst, arith}
+use Rattle.stats.specs.declared.exactness.Precision.TheVariants.{Exact}
+use Rattle.orders.proofs.Cheaper.{BestOf, best_at_0, best_new, best_stays, read_cheaper}
+use Rattle.orders.proofs.choose.Goals.{in-Some, in_default-2, in_default}
 use Rattle.orders.proofs.choose.Goals as goal
-
-pub returns-then-is_empty : goal.returns-then-is_empty
-returns-then-is_empty c = nil_from_length c.args.costs.now (eqb-true (length c.args.costs.now) 0 (sym c.is_empty.ensures ∙ c.if-is_empty.true))
 
 pub loop-i-preserved : goal.loop-i-preserved
 loop-i-preserved c =
     let costs = c.args.costs.now in
     let i = c.loop-i.i in
-    let best = c.loop-i.best in
-    let read = read_cheaper costs i best (Exact 0) c.loop-i-test.true c.loop-i.invariant.0 ∙ sym c.is_cheaper.ensures in
-    let Holds = λ (b : ℕ). (b < length costs) × ((j : ℕ) → j < i + 1 → cheaper (get_or costs j Absent) (get_or costs b Absent) ≡ false) in
-    elim c.if-is_cheaper.branch [
-      | then-is_cheaper w ↦ subst Holds (sym w.best-is) (c.loop-i-test.true, best_new costs i best c.loop-i.invariant.1 (read ∙ w.if-is_cheaper.true))
-      | else-is_cheaper w ↦ subst Holds (sym w.best-is) (c.loop-i.invariant.0, best_stays costs i best c.loop-i.invariant.1 (read ∙ w.if-is_cheaper.false))
+    let before = λ (b : ℕ) (e : c.loop-i.best ≡ Some b). subst (BestOf costs i) e c.loop-i.invariant in
+    elim c.match-best.branch [
+      | in-Some w ↦
+          let b = w.in-Some.b in
+          let old = before b w.in-Some.is in
+          subst (BestOf costs (i + 1)) (sym w.best-is) (best_stays costs i b old (read_cheaper costs i b (Exact 0) c.loop-i-test.true (let h = old.among in omega arith) ∙ sym w.is_cheaper.ensures ∙ w.if-not-is_cheaper.true))
+      | in_default-2 w ↦
+          let b = w.in-Some.b in
+          let old = before b w.in-Some.is in
+          subst (BestOf costs (i + 1)) (sym w.best-is) (best_new costs i b old (read_cheaper costs i b (Exact 0) c.loop-i-test.true (let h = old.among in omega arith) ∙ sym w.is_cheaper.ensures ∙ w.if-not-is_cheaper.false))
+      | in_default w ↦ subst (BestOf costs (i + 1)) (sym w.best-is) (best_at_0 costs i (subst (BestOf costs i) w.in_default.is c.loop-i.invariant))
     ]

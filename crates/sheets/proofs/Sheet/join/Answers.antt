@@ -1,18 +1,9 @@
-use Rattle.std.proofs.Common.{refl, ◌∙◌}
-use Rattle.sheet.specs.Calls.{join_of, order}
+use Rattle.std.proofs.Common.{◌∙◌}
 use Rattle.sheets.proofs.Refilled.{outcome_put_back, keeps_put_back}
 use Rattle.sheets.proofs.Sheet.join.Goals as goal
 
-pub returns : goal.returns
-returns g c =
-    let s = c.args.self.now in
-    let estimate = g.E.Estimator.figure s.estimator in
-    let nodes = c.as_mut_slice-nodes.ensures.value in
-    let columns = c.as_mut_slice-columns.ensures.value in
-    let as-many-nodes = c.join.auto.nodes ∙ c.as_mut_slice-nodes.ensures.len in
-    let as-many-columns = c.join.auto.columns ∙ c.as_mut_slice-columns.ensures.len in
-    record {
-      outcome = outcome_put_back s _ _ nodes columns _ _ _ as-many-nodes as-many-columns g.K.Key.relation estimate (order (join_of c.args.join.now)) _ c.join.ensures.outcome;
-      keeps = keeps_put_back s _ _ nodes columns _ _ _ as-many-nodes as-many-columns g.K.Key.relation estimate c.join.ensures.keeps;
-      estimator = refl;
-    }
+pub returns-clause-outcome : goal.returns-clause-outcome
+returns-clause-outcome g c = outcome_put_back c.args.self.now c.deref_mut.ensures.value c.deref_mut-2.ensures.value (c.join.auto.nodes ∙ c.deref_mut.ensures.len) (c.join.auto.columns ∙ c.deref_mut-2.ensures.len) c.join.ensures.outcome
+
+pub returns-clause-keeps : goal.returns-clause-keeps
+returns-clause-keeps g c = keeps_put_back c.args.self.now c.deref_mut.ensures.value c.deref_mut-2.ensures.value (c.join.auto.nodes ∙ c.deref_mut.ensures.len) (c.join.auto.columns ∙ c.deref_mut-2.ensures.len) c.join.ensures.keeps

@@ -1,18 +1,9 @@
-use Rattle.std.proofs.Common.{refl, ◌∙◌}
-use Rattle.sheet.specs.Calls.{lay, order}
+use Rattle.std.proofs.Common.{◌∙◌}
 use Rattle.sheets.proofs.Refilled.{outcome_put_back, keeps_put_back}
 use Rattle.sheets.proofs.Sheet.lay.Goals as goal
 
-pub returns : goal.returns
-returns g c =
-    let s = c.args.self.now in
-    let estimate = g.E.Estimator.figure s.estimator in
-    let nodes = c.as_mut_slice-nodes.ensures.value in
-    let columns = c.as_mut_slice-columns.ensures.value in
-    let as-many-nodes = c.lay.auto.nodes ∙ c.as_mut_slice-nodes.ensures.len in
-    let as-many-columns = c.lay.auto.columns ∙ c.as_mut_slice-columns.ensures.len in
-    record {
-      outcome = outcome_put_back s _ _ nodes columns _ _ _ as-many-nodes as-many-columns g.K.Key.relation estimate (order (lay c.args.rows c.args.bytes c.args.laid.now)) _ (c.lay.ensures.outcome estimate);
-      keeps = keeps_put_back s _ _ nodes columns _ _ _ as-many-nodes as-many-columns g.K.Key.relation estimate (c.lay.ensures.keeps estimate (g.met.E.Estimator.shares s.estimator) (g.met.E.Estimator.mirrors s.estimator));
-      estimator = refl;
-    }
+pub returns-clause-outcome : goal.returns-clause-outcome
+returns-clause-outcome g c = outcome_put_back c.args.self.now c.deref_mut.ensures.value c.deref_mut-2.ensures.value (c.lay.auto.nodes ∙ c.deref_mut.ensures.len) (c.lay.auto.columns ∙ c.deref_mut-2.ensures.len) (c.lay.ensures.outcome _)
+
+pub returns-clause-keeps : goal.returns-clause-keeps
+returns-clause-keeps g c = keeps_put_back c.args.self.now c.deref_mut.ensures.value c.deref_mut-2.ensures.value (c.lay.auto.nodes ∙ c.deref_mut.ensures.len) (c.lay.auto.columns ∙ c.deref_mut-2.ensures.len) (c.lay.ensures.keeps _ (g.met.E.Estimator.shares _) (g.met.E.Estimator.mirrors _))

@@ -4,16 +4,12 @@ use Rattle.sheet.specs.Reads.{read_answer, shown}
 use Rattle.sheets.proofs.Refilled.{before, keeps_of_head}
 use Rattle.sheets.proofs.Sheet.read.Goals as goal
 
-pub returns : goal.returns
-returns g c =
-    let s = c.args.self.now in
-    let relation = g.K.Key.relation in
-    let estimate = g.E.Estimator.figure s.estimator in
-    let nodes = c.as_slice-nodes.ensures.value in
-    let columns = c.as_slice-columns.ensures.value in
-    let same = before s _ _ nodes columns in
-    record {
-      value = c.read.ensures.value ∙ ap (λ t. read_answer relation t c.args.n) same;
-      least = subst (λ t. Least (read_clear relation t c.args.n) (shown c.read.result)) same c.read.ensures.least;
-      keeps = keeps_of_head s _ _ nodes columns relation estimate _ (c.read.ensures.keeps estimate (g.met.E.Estimator.shares s.estimator) (g.met.E.Estimator.mirrors s.estimator));
-    }
+pub returns-clause-value : goal.returns-clause-value
+returns-clause-value g c = c.read.ensures.value ∙ ap (λ t. read_answer g.K.Key.relation t c.args.n) (before c.args.self.now c.deref.ensures.value c.deref-2.ensures.value)
+
+pub returns-clause-least : goal.returns-clause-least
+returns-clause-least g c =
+    subst (λ t. Least (read_clear g.K.Key.relation t c.args.n) (shown c.read.result)) (before c.args.self.now c.deref.ensures.value c.deref-2.ensures.value) c.read.ensures.least
+
+pub returns-clause-keeps : goal.returns-clause-keeps
+returns-clause-keeps g c = keeps_of_head c.args.self.now c.deref.ensures.value c.deref-2.ensures.value (c.read.ensures.keeps _ (g.met.E.Estimator.shares _) (g.met.E.Estimator.mirrors _))
