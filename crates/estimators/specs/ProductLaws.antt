@@ -44,14 +44,14 @@ larger_swap (Some a) None = refl
 larger_swap None (Some b) = refl
 larger_swap None None = refl
 
-divisor_turned : {A K : Type 0} (f : A → KeyColumns K) (xs : List A) → divisor (map (λ x. turned (f x)) xs) ≡ divisor (map f xs)
-divisor_turned f xs =
-    fold-map (λ p k. stopping_product p (larger_distinct (known k.this.distinct_count) (known k.other.distinct_count))) (λ x. turned (f x)) (Some 1) xs ∙
-    (λ i. fold (λ p x. stopping_product p (larger_swap (known (f x).other.distinct_count) (known (f x).this.distinct_count) i)) (Some 1) xs) ∙
-    sym (fold-map (λ p k. stopping_product p (larger_distinct (known k.this.distinct_count) (known k.other.distinct_count))) f (Some 1) xs)
+divisor_from : {A K : Type 0} (p : Option ℕ) (f : A → KeyColumns K) (xs : List A) → fold (λ p k. stopping_product p (larger_distinct (known k.this.distinct_count) (known k.other.distinct_count))) p (map (λ x. turned (f x)) xs) ≡ fold (λ p k. stopping_product p (larger_distinct (known k.this.distinct_count) (known k.other.distinct_count))) p (map f xs)
+divisor_from p f xs =
+    fold-map (λ p k. stopping_product p (larger_distinct (known k.this.distinct_count) (known k.other.distinct_count))) (λ x. turned (f x)) p xs ∙
+    (λ i. fold (λ p x. stopping_product p (larger_swap (known (f x).other.distinct_count) (known (f x).this.distinct_count) i)) p xs) ∙
+    sym (fold-map (λ p k. stopping_product p (larger_distinct (known k.this.distinct_count) (known k.other.distinct_count))) f p xs)
 
 divisor_mirrored : {K : Type 0} (q : Question K) → divisor (keys_from Left (mirrored q)) ≡ divisor (keys_from Left q)
-divisor_mirrored q = ap divisor (keys_mirrored Left q) ∙ divisor_turned (columns_from Left q) q.pairs
+divisor_mirrored q = ap divisor (keys_mirrored Left q) ∙ divisor_from (Some 1) (columns_from Left q) q.pairs
 
 joined_swap : (l r : ℕ) (p : Option ℕ) → joined_by r l p ≡ joined_by l r p
 joined_swap l r None = mul_comm r l

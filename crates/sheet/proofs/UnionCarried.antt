@@ -8,11 +8,16 @@ use Rattle.stats.specs.Bytes.{rescaled_bytes}
 use Rattle.stats.specs.Columns.{unknown_column}
 use Rattle.sheet.specs.Sheets.{Sheet, Table, node_at, table_at}
 use Rattle.sheet.specs.Made.{Made, unknowns, first_width, united}
+use Rattle.sheet.specs.Causes.{union_width, width_of_first}
 
 -- a fold over what a map gives
 folded_map : {A B C : Type 0} (f : C → B → C) (g : A → B) (a : C) (xs : List A) → fold (λ c x. f c (g x)) a xs ≡ fold f a (map g xs)
 folded_map f g a [] = refl
 folded_map f g a (x ∷ xs) = folded_map f g (f a (g x)) xs
+
+pub first_is : {K : Type 0} (s : Sheet K) (cs : List ℕ) → width_of_first s.nodes cs ≡ union_width s cs
+first_is s [] = refl
+first_is s (c ∷ cs) = refl
 
 module _ {K : Type 0} (s : Sheet K) (cs : List ℕ) where
   abbrev rows : Precision ℕ

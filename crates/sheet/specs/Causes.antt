@@ -1,6 +1,6 @@
 -- The causes of a refusal, each by itself; the answer is the least number whose
 -- cause holds. Assumes nothing.
-use Rattle.std.specs.Prelude.{ℕ, ◌+◌, Bool, true, cond, not, ◌&&◌, ◌||◌, List, [], ◌∷◌, map, length, Some, None, Option, ◌==◌, nat_eq, nat_le, nat_lt}
+use Rattle.std.specs.Prelude.{ℕ, ◌+◌, ◌-◌, Bool, true, cond, not, ◌&&◌, ◌||◌, List, [], ◌∷◌, map, length, Some, None, Option, ◌==◌, nat_eq, nat_le, nat_lt, slice_index_or}
 use Rattle.std.specs.Option.{option_map, option_or}
 use Rattle.keys.specs.declared.Relation.{Relation}
 use Rattle.stats.specs.declared.exactness.Precision.{Precision}
@@ -17,7 +17,7 @@ use Rattle.questions.specs.Questions.{Question}
 use Rattle.sheet.specs.declared.Node.{Node}
 use Rattle.sheet.specs.declared.refusals.Refusal.{Refusal}
 use Rattle.sheet.specs.declared.refusals.Refusal.TheVariants as refusal
-use Rattle.sheet.specs.Sheets.{Sheet, node_at, block, table_at}
+use Rattle.sheet.specs.Sheets.{Sheet, no_node, node_at, block, table_at}
 use Rattle.sheet.specs.Calls.{Order, lay, join, cross, limit, union, group, children}
 use Rattle.sheet.specs.Made.{Made, joined, crossed, limited, united, grouped}
 
@@ -95,6 +95,11 @@ join_width type.RightMark l r = r + 1
 abbrev pub union_width : {K : Type 0} → Sheet K → List ℕ → ℕ
 union_width s [] = 0
 union_width s (c ∷ cs) = (node_at s c).width
+
+-- the same, from node memory
+abbrev pub width_of_first : List Node → List ℕ → ℕ
+width_of_first nodes [] = 0
+width_of_first nodes (c ∷ cs) = (slice_index_or nodes (c - 1) no_node).width
 
 abbrev pub width_of : {K : Type 0} → Sheet K → Order K → ℕ
 width_of s (lay rows bytes columns) = length columns

@@ -28,6 +28,9 @@ pub(crate) fn put_unknown<K: Key>(block: &mut [ColumnStatistics<K>])
     block.fill(ColumnStatistics::unknown());
 }
 
+// Two loops, and no closure over both: of a closure a contract knows what it may
+// answer, and here the list that comes out is said.
+
 /// Makes all columns Inexact.
 pub(crate) fn loosen<K: Key>(block: &mut [ColumnStatistics<K>])
     ensures { block.new ≡ map column_inexact block.old }

@@ -34,6 +34,9 @@ pub(crate) fn add_node<K: Key>(
     head.count
 }
 
+// The calls take head, nodes and columns by themselves: they are handed in so, and a
+// struct of three borrows would be taken apart again in each.
+
 /// Lays a table.
 pub(crate) fn laid_on<K: Key>(
     head: &mut Head,

@@ -114,10 +114,9 @@ fn key_column<K: Key>(columns: &[ColumnStatistics<K>], key: KeySide) -> ColumnSt
     let KeySide::Column(index) = key else {
         return ColumnStatistics::unknown();
     };
-    match columns.get(index) {
-        Some(column) => column.to_inexact(),
-        None => ColumnStatistics::unknown(),
-    }
+    columns
+        .get(index)
+        .map_or(ColumnStatistics::unknown(), |column| column.to_inexact())
 }
 
 /// Writes the key columns.
@@ -129,6 +128,7 @@ fn put_keys<K: Key>(
     requires { length block.old ≡ length by.now }
     ensures { block.new ≡ map (key_column columns.now) by.now }
 {
+    // Not by iter_mut().zip(..): after that a proof knows the block's length alone.
     for (i, key) in by.iter().enumerate() {
         block[i] = key_column(columns, *key);
     }

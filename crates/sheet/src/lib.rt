@@ -43,6 +43,8 @@ use unions::united_on;
 
 /// The head of a sheet: how many nodes stand, and how much column memory is
 /// used. Nodes are numbered from 1.
+// Numbers of nodes and places in one memory, and no tree of boxes: a sheet has no
+// heap, its memory is handed in at each call.
 #[derive(Clone, Copy, PartialEq, Eq, Debug)]
 pub struct Head {
     pub count: usize,

@@ -33,6 +33,8 @@ pub enum Refusal {
 }
 
 impl Refusal {
+    /// The number of its cause.
+    // No From: `u8::from` would not say which number is meant.
     pub fn number(self) -> u8
         ensures { result ≡ refusal_number self }
     {

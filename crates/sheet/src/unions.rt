@@ -75,24 +75,19 @@ impl<'a, K: Key> View<'a, K> {
         refuse_unless(self.fits_union(children), Refusal::ColumnMemory)
     }
 
-    // Rows and bytes by themselves: one sum over a closure would say no more, and
-    // its contract less plainly.
-    /// The rows of all children, added up from Exact 0.
-    fn rows_together(&self, children: &[usize]) -> Precision<u64>
-        ensures { result ≡ fold (λ sum c. total sum (node_at (seen self.now) c).rows) (Exact 0) children.now }
+    /// Rows and bytes of all children, each added up from Exact 0.
+    fn sums(&self, children: &[usize]) -> (Precision<u64>, Precision<u64>)
+        ensures rows { result.0 ≡ fold (λ sum c. total sum (node_at (seen self.now) c).rows) (Exact 0) children.now }
+        ensures bytes { result.1 ≡ fold (λ sum c. total sum (node_at (seen self.now) c).bytes) (Exact 0) children.now }
     {
-        children
+        let none = Precision::Exact(0);
+        let rows = children
             .iter()
-            .fold(Precision::Exact(0), |sum, n| sum.add(self.node(*n).rows))
-    }
-
-    /// Their bytes, added up likewise.
-    fn bytes_together(&self, children: &[usize]) -> Precision<u64>
-        ensures { result ≡ fold (λ sum c. total sum (node_at (seen self.now) c).bytes) (Exact 0) children.now }
-    {
-        children
+            .fold(none, |sum, n| sum.add(self.node(*n).rows));
+        let bytes = children
             .iter()
-            .fold(Precision::Exact(0), |sum, n| sum.add(self.node(*n).bytes))
+            .fold(none, |sum, n| sum.add(self.node(*n).bytes));
+        (rows, bytes)
     }
 }
 
@@ -111,8 +106,8 @@ pub(crate) fn united_on<K: Key>(
         columns,
     };
     view.check_union(children)?;
-    let rows = view.rows_together(children);
-    let bytes = rescale_byte_size(view.bytes_together(children), rows, rows);
+    let (rows, bytes) = view.sums(children);
+    let bytes = rescale_byte_size(bytes, rows, rows);
     check_size(rows, bytes)?;
     let width = view.union_width(children);
     let (_, free) = columns.split_at_mut(head.used);

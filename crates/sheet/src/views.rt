@@ -60,6 +60,7 @@ fn is_in_limits(node: &Node) -> bool
 
 impl<'a, K: Key> View<'a, K> {
     /// The node of a number; one without rows and columns where memory has none.
+    // No Option: each cause is asked by itself, of children that do not stand too.
     pub fn node(&self, n: usize) -> Node
         ensures { result ≡ node_at (seen self.now) n }
     {

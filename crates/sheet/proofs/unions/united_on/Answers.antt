@@ -41,8 +41,8 @@ returns-in_err-check_size g c =
     let check = c.in_ok-check_union.ensures in
     let p = err_from_is_err_and c.from_residual-in_err-check_size.result c.from_residual-in_err-check_size.ensures.1 in
     size_refused s (op.Union (kept_as 0 cs)) (united (map (table_at s) cs)) _ _ _ None (union_width s cs)
-    (union_rows s cs _ c.rows_together-rows.ensures)
-    (union_bytes s cs _ _ _ c.rows_together-rows.ensures c.bytes_together.ensures c.rescale_byte_size-bytes.ensures.value) refl
+    (union_rows s cs _ c.sums-rows.ensures.rows)
+    (union_bytes s cs _ _ _ c.sums-rows.ensures.rows c.sums-rows.ensures.bytes c.rescale_byte_size-bytes.ensures.value) refl
     (wide g.K.Key.relation s cs check (union_width s cs) refl) check
     _ _ (p.1 ∙ ap Err p.2) c.in_err-check_size.ensures
 
@@ -62,10 +62,10 @@ returns g c =
     let split = c.split_at_mut-free.ensures in
     let added = c.add_node.ensures in
     carried_out s (op.Union (kept_as 0 cs)) (united (map (table_at s) cs)) _ _ _ None _
-    (union_rows s cs _ c.rows_together-rows.ensures)
-    (union_bytes s cs _ _ _ c.rows_together-rows.ensures c.bytes_together.ensures c.rescale_byte_size-bytes.ensures.value) refl
+    (union_rows s cs _ c.sums-rows.ensures.rows)
+    (union_bytes s cs _ _ _ c.sums-rows.ensures.rows c.sums-rows.ensures.bytes c.rescale_byte_size-bytes.ensures.value) refl
     filled check
     c.in_ok-check_size.ensures fits
     _ _ _ split.value split.front_len
     (c.put_unknown.ensures ∙ union_columns s cs _ _ filled (free_wide s.columns _ _ s.head.used _ split.value split.front_len fits))
-    _ _ _ _ added.number added.counts (added.adds ∙ ap (λ (k : Short ℕ). set s.nodes s.head.count (node_made (op.Union k) c.rows_together-rows.result c.rescale_byte_size-bytes.result None s.head.used c.union_width-width.result)) c.short_of.ensures) added.trims
+    _ _ _ _ added.number added.counts (added.adds ∙ ap (λ (k : Short ℕ). set s.nodes s.head.count (node_made (op.Union k) c.sums-rows.result.0 c.rescale_byte_size-bytes.result None s.head.used c.union_width-width.result)) c.short_of.ensures) added.trims
