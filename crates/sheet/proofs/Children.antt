@@ -6,7 +6,6 @@ use Rattle.std.proofs.lemmas.Bool.{and_parts, leb-true}
 use Rattle.std.proofs.lemmas.Bool.Decides.{nat_tests}
 use Rattle.std.proofs.lemmas.List.{places, same_lists}
 use Rattle.keys.specs.declared.Relation.{Relation}
-use Rattle.keys.specs.NoValue.{no_value}
 use Rattle.stats.specs.Precisions.{at_most}
 use Rattle.stats.specs.Limits.{max_count, max_node_bytes}
 use Rattle.questions.specs.declared.figures.Figure.{Figure}
@@ -41,7 +40,7 @@ pub record Readable {K : Type 0} (s : Sheet K) (node : Node) : Type 0 where
 
 unless_none : (b : Bool) (r : Refusal) (n : Option Refusal) → unless b r n ≡ None → (b ≡ true) × (n ≡ None)
 unless_none true r n e = (refl, e)
-unless_none false r n e = no_value (sym e)
+unless_none false r n e = cc
 
 module _ {K : Type 0} (relation : K → K → Relation) (s : Sheet K) where
   pub early_passed : (o : Order K) → Ok tt ≡ checked (early_refusal relation s o) → Early relation s o

@@ -2,8 +2,8 @@
 use Rattle.std.proofs.Common.{◌≡◌, ℕ, ◌+◌, ◌-◌, ◌<◌, Bool, true, false, List, [], ◌∷◌, ◌++◌, map, length, take, drop, Some, None, Option, sym, refl, ap, ◌∙◌, subst, arith}
 use lib.ListN.{length-map}
 use Rattle.std.proofs.lemmas.List.{take_at, drop_at, map-append}
+use Rattle.std.proofs.lemmas.Simd.{map-map}
 use Rattle.keys.specs.declared.Relation.{Relation}
-use Rattle.keys.specs.NoValue.{no_value}
 use Rattle.stats.specs.declared.exactness.Precision.{Precision}
 use Rattle.stats.specs.declared.exactness.Precision.TheVariants.{Exact, Inexact, Absent}
 use Rattle.stats.specs.declared.columns.ColumnStatistics.{ColumnStatistics}
@@ -72,12 +72,12 @@ module _ {K : Type 0} (rule : NullEquality) (keys : List ℕ) (t : Table K) wher
   share_by None None None e h = let z = absent t.rows e in (sym (ap inexact z), sym (ap inexact z))
     where
       absent : (p : Precision ℕ) → known p ≡ None → p ≡ Absent
-      absent (Exact v) e = no_value (sym e)
-      absent (Inexact v) e = no_value (sym e)
+      absent (Exact v) e = cc
+      absent (Inexact v) e = cc
       absent Absent e = refl
   share_by None None (Some g) e h = absurd h
   share_by None (Some f) None e h = absurd h
-  share_by None (Some f) (Some g) e h = no_value (sym e ∙ h)
+  share_by None (Some f) (Some g) e h = cc
 
   parts_share : (f g : Option Figure) → AddUp f g t.rows → ShareBy (part false rule keys f t).figure (part true rule keys g t).figure (part false rule keys f t).rows (part true rule keys g t).rows t.rows
   parts_share f g h =
@@ -97,10 +97,6 @@ exchange : {A B : Type 0} (f : A → B) (xs ys : List A) (w : ℕ) → length xs
 exchange f xs ys w e =
     let l = length-map xs f ∙ e in
     map-append f ys xs ∙ sym ((λ i. drop w (map-append f xs ys i) ++ take w (map-append f xs ys i)) ∙ (λ i. drop_at (map f xs) (map f ys) w l i ++ take_at (map f xs) (map f ys) w l i))
-
-pub map_map : {A B C : Type 0} (g : B → C) (f : A → B) (xs : List A) → map g (map f xs) ≡ map (λ x. g (f x)) xs
-map_map g f [] = refl
-map_map g f (x ∷ xs) = ap (λ zs. g (f x) ∷ zs) (map_map g f xs)
 
 unknown_each : {K : Type 0} (cs : List (ColumnStatistics K)) → unknowns {K = K} (length cs) ≡ map (λ (c : ColumnStatistics K). unknown_column) cs
 unknown_each [] = refl
@@ -143,12 +139,12 @@ combined_mirror (Some f) l r w e =
       bytes = refl;
       figure = refl;
       columns =
-          map_map (trimmed rows) column_inexact (r.columns ++ l.columns) ∙
+          map-map (trimmed rows) column_inexact (r.columns ++ l.columns) ∙
           exchange (λ c. trimmed rows (column_inexact c)) l.columns r.columns w e ∙
-          sym (ap (λ cs. drop w cs ++ take w cs) (map_map (trimmed rows) column_inexact (l.columns ++ r.columns)));
+          sym (ap (λ cs. drop w cs ++ take w cs) (map-map (trimmed rows) column_inexact (l.columns ++ r.columns)));
     }
 combined_mirror {K} None l r w e =
-    let each : (cs : List (ColumnStatistics K)) → map (trimmed Absent) (unknowns {K = K} (length cs)) ≡ map (λ (c : ColumnStatistics K). trimmed Absent unknown_column) cs = λ cs. ap (map (trimmed Absent)) (unknown_each cs) ∙ map_map (trimmed Absent) (λ c. unknown_column) cs in
+    let each : (cs : List (ColumnStatistics K)) → map (trimmed Absent) (unknowns {K = K} (length cs)) ≡ map (λ (c : ColumnStatistics K). trimmed Absent unknown_column) cs = λ cs. ap (map (trimmed Absent)) (unknown_each cs) ∙ map-map (trimmed Absent) (λ c. unknown_column) cs in
     record {
       rows = refl;
       bytes = refl;

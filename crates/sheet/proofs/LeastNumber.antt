@@ -1,9 +1,8 @@
 -- The chain of causes gives the least number. Assumes nothing.
-use Rattle.std.proofs.Common.{◌≡◌, ℕ, zero, suc, ◌+◌, ◌≤◌, Bool, true, false, cond, not, ◌⊎◌, Some, None, Ok, Err, Option, Result, sym, refl, ap, ◌∙◌, subst, inl, inr, ⊎_elim, arith}
+use Rattle.std.proofs.Common.{◌≡◌, ℕ, zero, suc, ◌+◌, ◌≤◌, Bool, true, false, not, ◌⊎◌, Some, None, Ok, Err, Option, Result, sym, refl, ap, ◌∙◌, subst, inl, inr, ⊎_elim, arith}
 use Rattle.std.specs.Option.{option_map, option_or}
 use Rattle.std.proofs.lemmas.Bool.{eq-eqb, cases_eq}
 use Rattle.keys.specs.declared.Relation.{Relation}
-use Rattle.keys.specs.NoValue.{no_value}
 use Rattle.questions.specs.declared.figures.Figure.{Figure}
 use Rattle.questions.specs.Questions.{Question}
 use Rattle.sheet.specs.declared.refusals.Refusal.{Refusal}
@@ -42,9 +41,6 @@ numbered (Column i) h = absurd (omega arith)
 same_number : (q r : Refusal) → refusal_number r ≤ 8 → refusal_number q ≡ refusal_number r → q ≡ r
 same_number q r h e = sym (numbered q (omega (arith, e))) ∙ ap by_number e ∙ numbered r h
 
-no_both : {A : Type 0} → true ≡ false → A
-no_both e = let z : ◌≡◌ {A = ℕ} 0 1 = ap (λ (b : Bool). cond b 0 1) e in absurd (omega (arith, z))
-
 -- ---- the chain, from a number on
 module _ (clear : Refusal → Bool) where
   pub record From (k : ℕ) (o : Option Refusal) : Type 0 where
@@ -53,11 +49,7 @@ module _ (clear : Refusal → Bool) where
     pub free : o ≡ None → (q : Refusal) → k ≤ refusal_number q → clear q ≡ true
 
   some_same : (x r : Refusal) → Some x ≡ Some r → x ≡ r
-  some_same x r e = ap (λ (o : Option Refusal). or_else o) e
-    where
-      or_else : Option Refusal → Refusal
-      or_else (Some y) = y
-      or_else None = x
+  some_same x r e = cc
 
   here_or_above : (r q : Refusal) → refusal_number r ≤ 8 → refusal_number r ≤ refusal_number q → (q ≡ r) ⊎ (refusal_number r + 1 ≤ refusal_number q)
   here_or_above r q h l = ⊎_elim (λ e. inl (same_number q r h e)) (λ n. inr (omega (arith, n))) (cases_eq (refusal_number q) (refusal_number r))
@@ -65,13 +57,13 @@ module _ (clear : Refusal → Bool) where
   one_more : (r : Refusal) (b : Bool) (next : Option Refusal) → clear r ≡ b → refusal_number r ≤ 8 → From (refusal_number r + 1) next → From (refusal_number r) (unless b r next)
   one_more r true next e h f = record {
     caused = f.caused;
-    least = λ x q i c l. ⊎_elim (λ s. no_both (sym (ap clear s ∙ e) ∙ c)) (λ a. f.least x q i c a) (here_or_above r q h l);
+    least = λ x q i c l. ⊎_elim (λ s. let z = sym (ap clear s ∙ e) ∙ c in cc) (λ a. f.least x q i c a) (here_or_above r q h l);
     free = λ i q l. ⊎_elim (λ s. ap clear s ∙ e) (λ a. f.free i q a) (here_or_above r q h l);
   }
   one_more r false next e h f = record {
     caused = λ x i. ap clear (sym (some_same r x i)) ∙ e;
     least = λ x q i c l. subst (λ (y : Refusal). refusal_number y ≤ refusal_number q) (some_same r x i) l;
-    free = λ i q l. no_value (sym i);
+    free = λ i q l. cc;
   }
 
   -- the laid columns come last
@@ -79,11 +71,11 @@ module _ (clear : Refusal → Bool) where
   last (Some j) e = record {
     caused = λ r i. ap clear (sym (some_same (Column j) r i)) ∙ e j ∙ ap not (eq-eqb j j refl);
     least = λ r q i c l. subst (λ (y : Refusal). refusal_number y ≤ refusal_number q) (some_same (Column j) r i) l;
-    free = λ i q l. no_value (sym i);
+    free = λ i q l. cc;
   }
   last None e = record {
-    caused = λ r i. no_value i;
-    least = λ r q i c l. no_value i;
+    caused = λ r i. cc;
+    least = λ r q i c l. cc;
     free = λ i q l. last_clear q l;
   }
     where
@@ -146,18 +138,10 @@ from_1 (Column i) = omega arith
 
 -- an answer by the chain
 err_same : {A : Type 0} (x r : Refusal) → ◌≡◌ {A = Result A Refusal} (Err x) (Err r) → x ≡ r
-err_same {A} x r e = ap (λ (o : Result A Refusal). err_or o) e
-  where
-    err_or : Result A Refusal → Refusal
-    err_or (Err y) = y
-    err_or (Ok a) = x
+err_same x r e = cc
 
 no_answer : {A B : Type 0} {x : Refusal} {a : A} → ◌≡◌ {A = Result A Refusal} (Err x) (Ok a) → B
-no_answer {A} e = let z : ◌≡◌ {A = ℕ} 0 1 = ap (λ (o : Result A Refusal). code o) e in absurd (omega (arith, z))
-  where
-    code : Result A Refusal → ℕ
-    code (Err y) = 0
-    code (Ok a) = 1
+no_answer e = cc
 
 pub refusal_least : {A : Type 0} (clear : Refusal → Bool) (o : Option Refusal) → From clear 1 o → (ok : A) (answer : Result A Refusal) → answer ≡ answered o ok → Least clear answer
 refusal_least clear (Some x) f ok answer e = record {

@@ -1,5 +1,5 @@
 -- A refused call leaves the sheet. Assumes nothing.
-use Rattle.std.proofs.Common.{◌≡◌, ℕ, Some, None, Ok, Err, Option, Result, sym, refl, ap, ◌∙◌, arith}
+use Rattle.std.proofs.Common.{◌≡◌, ℕ, Some, None, Ok, Err, Option, Result, sym, refl, ap, ◌∙◌}
 use Rattle.std.specs.Option.{option_or}
 use Rattle.sheet.specs.declared.refusals.Refusal.{Refusal}
 use Rattle.sheet.specs.Sheets.{Sheet}
@@ -7,17 +7,17 @@ use Rattle.sheet.specs.Steps.{stepped, checked, settled}
 
 pub refused : {K : Type 0} (o : Option Refusal) (s t : Sheet K) (r : Result ℕ Refusal) (x : Refusal) → r ≡ Err x → Err x ≡ checked o → stepped r s ≡ settled o s t
 refused (Some y) s t r x e d = let i : x ≡ y = cc in ap (λ a. stepped a s) (e ∙ ap Err i)
-refused None s t r x e d = let z : ◌≡◌ {A = ℕ} 0 1 = cc in let f : ⊥ = omega arith in absurd f
+refused None s t r x e d = cc
 
 -- an order refused by its early causes
 pub refused_early : {K : Type 0} (o p : Option Refusal) (s t : Sheet K) (r : Result ℕ Refusal) (x : Refusal) → r ≡ Err x → Err x ≡ checked o → stepped r s ≡ settled (option_or o p) s t
 refused_early (Some y) p s t r x e d = let i : x ≡ y = cc in ap (λ a. stepped a s) (e ∙ ap Err i)
-refused_early None p s t r x e d = let z : ◌≡◌ {A = ℕ} 0 1 = cc in let f : ⊥ = omega arith in absurd f
+refused_early None p s t r x e d = cc
 
 -- or by the size of what it makes
 pub refused_size : {K : Type 0} (o p q : Option Refusal) (s t : Sheet K) (r : Result ℕ Refusal) (x : Refusal) → o ≡ None → r ≡ Err x → Err x ≡ checked p → stepped r s ≡ settled (option_or o (option_or p q)) s t
 refused_size o (Some y) q s t r x n e d = let i : x ≡ y = cc in ap (λ a. stepped a s) (e ∙ ap Err i) ∙ sym (ap (λ a. settled (option_or a (Some y)) s t) n)
-refused_size o None q s t r x n e d = let z : ◌≡◌ {A = ℕ} 0 1 = cc in let f : ⊥ = omega arith in absurd f
+refused_size o None q s t r x n e d = cc
 
 -- an order without a cause
 pub no_cause : (o p : Option Refusal) → o ≡ None → p ≡ None → option_or o (option_or p None) ≡ None
@@ -28,5 +28,5 @@ accepted_step o s t u n e d i = (λ j. stepped (Ok (d j)) u) ∙ ap (λ v. stepp
 
 -- a check that is passed refuses nothing
 pub passed : (o : Option Refusal) → Ok tt ≡ checked o → o ≡ None
-passed (Some z) d = let z : ◌≡◌ {A = ℕ} 0 1 = cc in let f : ⊥ = omega arith in absurd f
+passed (Some z) d = cc
 passed None d = refl

@@ -10,7 +10,6 @@ use Rattle.std.proofs.lemmas.List.Edits.{length-paste}
 use Rattle.std.proofs.lemmas.Bool.{and_parts, leb-true, cases_eq}
 use Rattle.std.proofs.lemmas.Bool.Decides.{nat_tests}
 use Rattle.keys.specs.declared.Relation.{Relation}
-use Rattle.keys.specs.NoValue.{no_value}
 use Rattle.stats.specs.declared.columns.ColumnStatistics.{ColumnStatistics}
 use Rattle.std.specs.List.{list_all}
 use Rattle.stats.specs.Trim.{trimmed, Ceiling}
@@ -198,11 +197,11 @@ module _ {K : Type 0} (estimate : Question K → Option Figure) where
 
   unless_none : (b : Bool) (r : Refusal) (n : Option Refusal) → unless b r n ≡ None → (b ≡ true) × (n ≡ None)
   unless_none true r n e = (refl, e)
-  unless_none false r n e = no_value (sym e)
+  unless_none false r n e = cc
 
   first_none : (a b : Option Refusal) → option_or a b ≡ None → a ≡ None
   first_none None b e = refl
-  first_none (Some r) b e = no_value (sym e)
+  first_none (Some r) b e = cc
 
   pub accepted : (relation : K → K → Relation) (s : Sheet K) (o : Order K) → order_refusal relation estimate s o ≡ None → Accepted relation s o
   accepted relation s o e =
@@ -234,14 +233,14 @@ module _ {K : Type 0} (estimate : Question K → Option Figure) where
       (child_stands relation s l a.0, child_stands relation s r b.0)
 
   order_sound : (relation : K → K → Relation) (s : Sheet K) → Sound s → (o : Order K) → Accepted relation s o → Sound (with_node (operator_of o) (made estimate s o) s)
-  order_sound relation s h (lay rows bytes columns) a = other_sound s h op.Lay _ a.room a.space (λ t rule l r on e. let z : ◌≡◌ {A = ℕ} 0 1 = cc in omega arith)
+  order_sound relation s h (lay rows bytes columns) a = other_sound s h op.Lay _ a.room a.space (λ t rule l r on e. cc)
   order_sound relation s h (join t rule l r pairs) a =
       let c = both_stand relation s l r a.fit in
       joined_sound s h _ _ a.room a.space t rule l r pairs refl (leb-true (length pairs) 16 a.counts) c.0 c.1 refl
-  order_sound relation s h (cross l r) a = other_sound s h (op.Cross l r) _ a.room a.space (λ t rule l r on e. let z : ◌≡◌ {A = ℕ} 0 1 = cc in omega arith)
-  order_sound relation s h (limit c skip fetch) a = other_sound s h (op.Limit c skip fetch) _ a.room a.space (λ t rule l r on e. let z : ◌≡◌ {A = ℕ} 0 1 = cc in omega arith)
-  order_sound relation s h (union cs) a = other_sound s h (op.Union (kept_as 0 cs)) _ a.room a.space (λ t rule l r on e. let z : ◌≡◌ {A = ℕ} 0 1 = cc in omega arith)
-  order_sound relation s h (group mode sets extras c keys) a = other_sound s h (op.Group mode sets extras c (kept_as no_key keys)) _ a.room a.space (λ t rule l r on e. let z : ◌≡◌ {A = ℕ} 0 1 = cc in omega arith)
+  order_sound relation s h (cross l r) a = other_sound s h (op.Cross l r) _ a.room a.space (λ t rule l r on e. cc)
+  order_sound relation s h (limit c skip fetch) a = other_sound s h (op.Limit c skip fetch) _ a.room a.space (λ t rule l r on e. cc)
+  order_sound relation s h (union cs) a = other_sound s h (op.Union (kept_as 0 cs)) _ a.room a.space (λ t rule l r on e. cc)
+  order_sound relation s h (group mode sets extras c keys) a = other_sound s h (op.Group mode sets extras c (kept_as no_key keys)) _ a.room a.space (λ t rule l r on e. cc)
 
   -- ---- cuts
   -- a cut leaves nodes and columns as they are

@@ -1,6 +1,7 @@
 -- What a union makes, from its children's nodes. Assumes nothing.
 use Rattle.std.proofs.Common.{◌≡◌, ℕ, List, [], ◌∷◌, map, length, fold, sym, refl, ap, ◌∙◌}
 use lib.ListN.{length-replicate}
+use Rattle.std.proofs.lemmas.List.Folds.{fold-map}
 use Rattle.stats.specs.declared.exactness.Precision.{Precision}
 use Rattle.stats.specs.declared.exactness.Precision.TheVariants.{Exact}
 use Rattle.stats.specs.Precisions.{total}
@@ -9,11 +10,6 @@ use Rattle.stats.specs.Columns.{unknown_column}
 use Rattle.sheet.specs.Sheets.{Sheet, Table, node_at, table_at}
 use Rattle.sheet.specs.Made.{Made, unknowns, first_width, united}
 use Rattle.sheet.specs.Causes.{union_width, width_of_first}
-
--- a fold over what a map gives
-folded_map : {A B C : Type 0} (f : C → B → C) (g : A → B) (a : C) (xs : List A) → fold (λ c x. f c (g x)) a xs ≡ fold f a (map g xs)
-folded_map f g a [] = refl
-folded_map f g a (x ∷ xs) = folded_map f g (f a (g x)) xs
 
 pub first_is : {K : Type 0} (s : Sheet K) (cs : List ℕ) → width_of_first s.nodes cs ≡ union_width s cs
 first_is s [] = refl
@@ -30,10 +26,10 @@ module _ {K : Type 0} (s : Sheet K) (cs : List ℕ) where
   makes = united (map (table_at s) cs)
 
   rows_is : rows ≡ makes.rows
-  rows_is = folded_map (λ sum (t : Table K). total sum t.rows) (table_at s) (Exact 0) cs
+  rows_is = sym (fold-map (λ sum (t : Table K). total sum t.rows) (table_at s) (Exact 0) cs)
 
   bytes_is : bytes ≡ fold (λ sum (t : Table K). total sum t.bytes) (Exact 0) (map (table_at s) cs)
-  bytes_is = folded_map (λ sum (t : Table K). total sum t.bytes) (table_at s) (Exact 0) cs
+  bytes_is = sym (fold-map (λ sum (t : Table K). total sum t.bytes) (table_at s) (Exact 0) cs)
 
   pub union_rows : (r : Precision ℕ) → r ≡ rows → r ≡ makes.rows
   union_rows r e = e ∙ rows_is

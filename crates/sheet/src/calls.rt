@@ -35,7 +35,7 @@ pub(crate) fn add_node<K: Key>(
 }
 
 // The calls take head, nodes and columns by themselves: they are handed in so, and a
-// struct of three borrows would be taken apart again in each.
+// proof loses one half of a slice that is split where a struct holds the other.
 
 /// Lays a table.
 pub(crate) fn laid_on<K: Key>(

@@ -30,13 +30,12 @@ pub(crate) fn find_unsound<K: Key>(laid: &[ColumnStatistics<K>]) -> Option<usize
 fn check_columns<K: Key>(laid: &[ColumnStatistics<K>]) -> Result<(), Refusal>
     ensures { result ≡ checked (option_map refusal.Column (first_unsound K.relation laid.now)) }
 {
-    match find_unsound(laid) {
-        Some(index) => Err(Refusal::Column(index)),
-        None => Ok(()),
-    }
+    find_unsound(laid).map_or(Ok(()), |index| Err(Refusal::Column(index)))
 }
 
 /// The refusal, unless all is fine.
+// Each call asks its causes with this in the order of their numbers. Causes 1 and 2,
+// and 5 and 6, in a function for all calls: the proof didn't close but for a limit.
 pub(crate) fn refuse_unless(fine: bool, refusal: Refusal) -> Result<(), Refusal>
     ensures { result ≡ (if fine then Ok tt else Err refusal) }
 {

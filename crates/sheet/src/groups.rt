@@ -59,8 +59,8 @@ fn groups_of<K: Key>(columns: &[ColumnStatistics<K>], key: KeySide) -> Option<u6
     let KeySide::Column(index) = key else {
         return None;
     };
-    let count = columns.get(index)?.distinct_count.get_value()?;
-    if count == 0 { None } else { Some(count) }
+    let count = columns.get(index)?.distinct_count.get_value();
+    count.filter(|count| *count > 0)
 }
 
 /// The groups that all keys give together: a product that stops at the greatest
@@ -144,14 +144,12 @@ fn put_grouped<K: Key>(
     requires { length block.old ≡ length grouping.now.by.now + grouping.now.extras }
     ensures { (rows bytes : Precision ℕ) → block.new ≡ (grouped_by groups grouping.now.extras grouping.now.by.now (record { rows = rows; bytes = bytes; columns = columns.now })).columns }
 {
-    match groups {
-        Some(_) => {
-            let (keys, extras) = block.split_at_mut(grouping.by.len());
-            put_keys(keys, columns, grouping.by);
-            put_unknown(extras)
-        }
-        None => put_unknown(block),
+    if groups.is_none() {
+        return put_unknown(block);
     }
+    let (keys, extras) = block.split_at_mut(grouping.by.len());
+    put_keys(keys, columns, grouping.by);
+    put_unknown(extras)
 }
 
 impl<'a, K: Key> View<'a, K> {

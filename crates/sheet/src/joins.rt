@@ -153,13 +153,11 @@ fn put_combined<K: Key>(
     requires { length block.old ≡ length (left.now.columns.now ++ right.now.columns.now) }
     ensures { block.new ≡ (combined figure (told left.now) (told right.now)).columns }
 {
-    match figure {
-        Some(_) => {
-            put_both(block, left.columns, right.columns);
-            loosen(block)
-        }
-        None => put_unknown(block),
+    if figure.is_none() {
+        return put_unknown(block);
     }
+    put_both(block, left.columns, right.columns);
+    loosen(block)
 }
 
 /// Writes the columns of a semi or an anti join on a side.
@@ -193,10 +191,10 @@ fn put_marked<K: Key>(block: &mut [ColumnStatistics<K>], from: &Table<'_, K>)
     requires { length block.old ≡ length from.now.columns.now + 1 }
     ensures { block.new ≡ (marked (told from.now)).columns }
 {
-    match from.rows.get_value() {
-        Some(_) => put_both(block, from.columns, &[ColumnStatistics::unknown()]),
-        None => put_unknown(block),
+    if from.rows.get_value().is_none() {
+        return put_unknown(block);
     }
+    put_both(block, from.columns, &[ColumnStatistics::unknown()])
 }
 
 /// Writes the columns of a join.
@@ -224,9 +222,9 @@ fn put_joined<K: Key>(
     }
 }
 
-/// Writes the columns of a join of nodes of the used part. It takes the nodes and
-/// not their tables: what holds a part of a slice that is lent loses what is known
-/// of the other part.
+/// Writes the columns of a join of nodes of the used part.
+// It takes the nodes and not their tables: after a call, a proof loses one half of a
+// slice that is split where a struct holds the other.
 fn write_joined<K: Key>(
     block: &mut [ColumnStatistics<K>],
     used: &[ColumnStatistics<K>],

@@ -25,6 +25,7 @@ mod unions;
 mod views;
 
 use calls::{cut_on, laid_on};
+pub use checks::{MAX_NODES, MAX_WIDTH};
 use crosses::crossed_on;
 pub use groups::Grouping;
 use groups::grouped_on;
@@ -39,6 +40,7 @@ use reads::read_on;
 pub use refusals::Refusal;
 pub use shorts::Short;
 use stats::{ColumnStatistics, Precision};
+pub use unions::MAX_CHILDREN;
 use unions::united_on;
 
 /// The head of a sheet: how many nodes stand, and how much column memory is
@@ -54,6 +56,8 @@ pub struct Head {
 /// The head of a blank sheet.
 pub const BLANK: Head = Head { count: 0, used: 0 };
 
+// Each call's step is proved by itself (`laid_on` and the like); here are its promises.
+// No ghost field can hold them, since the memory that they speak of is lent.
 impl Head {
     /// Lays a table: its rows, bytes and columns.
     pub fn lay<K: Key>(

@@ -83,7 +83,8 @@ impl<'p> Part<'p> {
         requires { length block.old ≡ length columns.now }
         ensures { block.new ≡ columns_kept (anti self.now.kind) self.now.null_equality (key_columns self.now.side self.now.on.now) self.now.old_rows self.now.new_rows 0 columns.now }
     {
-        // Not by iter_mut().zip(..): after that a proof knows the block's length alone.
+        // Not by iter_mut(), with zip or enumerate: after that a proof knows the block's
+        // length alone.
         for (i, column) in columns.iter().enumerate() {
             block[i] = self.column(i, *column);
         }

@@ -4,6 +4,7 @@ ghost use Rattle.std.specs.Fmt.{padded};
 ghost use Rattle.sheet.specs.Names.{cause};
 ghost use Rattle.sheet.specs.RefusalNumbers.{refusal_number, refused_column};
 
+use std::error::Error;
 use std::fmt;
 
 /// The causes of a refusal, in the order of their numbers. Of several causes the
@@ -69,6 +70,7 @@ impl fmt::Display for Refusal {
     ghost styled_output = { λ r spec. Some (padded spec (cause r)) };
 
     fn fmt<W: fmt::Write>(&self, f: &mut fmt::Formatter<W>) -> fmt::Result {
+        // A pad in each arm: with one over the match the proof did not close.
         match self {
             Refusal::NodeMemory => f.pad("no room for a node"),
             Refusal::Child => f.pad("a node that does not stand"),
@@ -82,3 +84,5 @@ impl fmt::Display for Refusal {
         }
     }
 }
+
+impl Error for Refusal {}

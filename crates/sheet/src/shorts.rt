@@ -6,6 +6,8 @@ ghost use Rattle.sheet.specs.Shorts.{kept_as};
 /// larger `len`, all items count.
 // A length beside the items, and no `Vec`: a node lies in memory that is handed in.
 #[derive(Clone, Copy, PartialEq, Eq, Debug)]
+// Derived equality compares the places after the values too: of lists that calls made
+// these hold a filler.
 pub struct Short<T> {
     pub items: [T; 16],
     pub len: usize,

@@ -33,6 +33,7 @@ impl<'a, K: Key> View<'a, K> {
     fn union_width(&self, children: &[usize]) -> usize
         ensures { result ≡ union_width (seen self.now) children.now }
     {
+        // Not by first() and map_or: the proof didn't close.
         match children {
             [first, ..] => self.node(*first).width,
             [] => 0,
@@ -80,13 +81,13 @@ impl<'a, K: Key> View<'a, K> {
         ensures rows { result.0 ≡ fold (λ sum c. total sum (node_at (seen self.now) c).rows) (Exact 0) children.now }
         ensures bytes { result.1 ≡ fold (λ sum c. total sum (node_at (seen self.now) c).bytes) (Exact 0) children.now }
     {
-        let none = Precision::Exact(0);
+        let zero = Precision::Exact(0);
         let rows = children
             .iter()
-            .fold(none, |sum, n| sum.add(self.node(*n).rows));
+            .fold(zero, |sum, n| sum.add(self.node(*n).rows));
         let bytes = children
             .iter()
-            .fold(none, |sum, n| sum.add(self.node(*n).bytes));
+            .fold(zero, |sum, n| sum.add(self.node(*n).bytes));
         (rows, bytes)
     }
 }

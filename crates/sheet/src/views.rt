@@ -11,6 +11,8 @@ use keys::Key;
 use stats::{ColumnStatistics, MAX_COUNT, MAX_NODE_BYTES, Precision, all_sound};
 
 /// The head of a sheet, and the memory that a call is handed.
+// Written as a literal in each call: of what a constructor answers a proof would know
+// its clause alone, and each answer would have to carry it over.
 #[derive(Clone, Copy)]
 pub(crate) struct View<'a, K> {
     pub head: Head,
@@ -60,7 +62,8 @@ fn is_in_limits(node: &Node) -> bool
 
 impl<'a, K: Key> View<'a, K> {
     /// The node of a number; one without rows and columns where memory has none.
-    // No Option: each cause is asked by itself, of children that do not stand too.
+    // No Option: `node_at` has a node for every number, and what is said of the causes
+    // speaks of it, standing or not.
     pub fn node(&self, n: usize) -> Node
         ensures { result ≡ node_at (seen self.now) n }
     {
