@@ -17,7 +17,7 @@ use Rattle.sheet.specs.Sheets.{Sheet, node_at, block}
 use Rattle.sheet.specs.Calls.{Order, children}
 use Rattle.sheet.specs.Causes.{no_node_memory, block_inside, stands, in_limits, columns_sound, fit_child, count_fits, keys_inside, width_of, same_widths, width_fits, columns_fit, max_width, made, unless, early_refusal}
 use Rattle.sheet.specs.Steps.{checked}
-use Rattle.sheet.proofs.Refused.{passed}
+use Rattle.sheet.proofs.Refused.{passed, unless_none}
 use Rattle.sheet.proofs.Widths.{block_length, made_wide}
 
 -- an order that has none of the causes
@@ -37,10 +37,6 @@ pub record Readable {K : Type 0} (s : Sheet K) (node : Node) : Type 0 where
   pub below : node.place + node.width ≤ s.head.used
   pub wide : length (block s.columns node) ≡ node.width
   pub same : block (take s.head.used s.columns) node ≡ block s.columns node
-
-unless_none : (b : Bool) (r : Refusal) (n : Option Refusal) → unless b r n ≡ None → (b ≡ true) × (n ≡ None)
-unless_none true r n e = (refl, e)
-unless_none false r n e = cc
 
 module _ {K : Type 0} (relation : K → K → Relation) (s : Sheet K) where
   pub early_passed : (o : Order K) → Ok tt ≡ checked (early_refusal relation s o) → Early relation s o

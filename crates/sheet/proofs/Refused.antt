@@ -1,8 +1,9 @@
 -- A refused call leaves the sheet. Assumes nothing.
-use Rattle.std.proofs.Common.{◌≡◌, ℕ, Some, None, Ok, Err, Option, Result, sym, refl, ap, ◌∙◌}
+use Rattle.std.proofs.Common.{◌≡◌, ℕ, Bool, true, false, Some, None, Ok, Err, Option, Result, sym, refl, ap, ◌∙◌}
 use Rattle.std.specs.Option.{option_or}
 use Rattle.sheet.specs.declared.refusals.Refusal.{Refusal}
 use Rattle.sheet.specs.Sheets.{Sheet}
+use Rattle.sheet.specs.Causes.{unless}
 use Rattle.sheet.specs.Steps.{stepped, checked, settled}
 
 pub refused : {K : Type 0} (o : Option Refusal) (s t : Sheet K) (r : Result ℕ Refusal) (x : Refusal) → r ≡ Err x → Err x ≡ checked o → stepped r s ≡ settled o s t
@@ -30,3 +31,8 @@ accepted_step o s t u n e d i = (λ j. stepped (Ok (d j)) u) ∙ ap (λ v. stepp
 pub passed : (o : Option Refusal) → Ok tt ≡ checked o → o ≡ None
 passed (Some z) d = cc
 passed None d = refl
+
+-- a cause that does not hold leaves the others
+pub unless_none : (b : Bool) (r : Refusal) (n : Option Refusal) → unless b r n ≡ None → (b ≡ true) × (n ≡ None)
+unless_none true r n e = (refl, e)
+unless_none false r n e = cc

@@ -32,6 +32,7 @@ use Rattle.sheet.specs.Made.{Made, joined}
 use Rattle.sheet.specs.Causes.{no_node_memory, short_nodes, block_inside, stands, in_limits, columns_sound, fit_child, count_fits, keys_inside, width_of, width_fits, columns_fit, made, unless, early_refusal, order_refusal, cut_refusal}
 use Rattle.sheet.specs.Steps.{with_node, cut_to, settled, step}
 use Rattle.sheet.specs.Laws.{Reached, start, next}
+use Rattle.sheet.proofs.Refused.{unless_none}
 use Rattle.sheet.proofs.BlockLists.{block_stays, block_new, listed_kept, all_made}
 use Rattle.sheet.proofs.Widths.{made_fits, made_wide}
 
@@ -194,10 +195,6 @@ module _ {K : Type 0} (estimate : Question K → Option Figure) where
     pub space : s.head.used + length (made estimate s o).columns ≤ length s.columns
     pub wide : length (made estimate s o).columns ≡ width_of s o
     pub blocks : list_all (λ n. block_inside s (node_at s n)) (children o) ≡ true
-
-  unless_none : (b : Bool) (r : Refusal) (n : Option Refusal) → unless b r n ≡ None → (b ≡ true) × (n ≡ None)
-  unless_none true r n e = (refl, e)
-  unless_none false r n e = cc
 
   first_none : (a b : Option Refusal) → option_or a b ≡ None → a ≡ None
   first_none None b e = refl

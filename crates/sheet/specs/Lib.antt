@@ -1,9 +1,9 @@
 pub mod RefusalNumbers
 pub mod Shorts
 pub mod Sheets
-pub mod Views
 pub mod Calls
 pub mod Made
+pub mod Views
 pub mod Causes
 pub mod Steps
 pub mod Least

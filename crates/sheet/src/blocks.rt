@@ -7,6 +7,9 @@ ghost use Rattle.sheet.specs.Made.{unknowns};
 use keys::Key;
 use stats::{ColumnStatistics, Precision};
 
+// What writes a block is handed just its columns: how many there are is a fact of two
+// arguments together, and so a clause and in no type.
+
 /// Writes the columns of two tables, left then right.
 pub(crate) fn put_both<K: Key>(
     block: &mut [ColumnStatistics<K>],

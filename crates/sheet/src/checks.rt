@@ -43,6 +43,7 @@ pub(crate) fn refuse_unless(fine: bool, refusal: Refusal) -> Result<(), Refusal>
 }
 
 /// The least cause of 7 and 8.
+// Rows and bytes by themselves: nodes, tables and views have them as fields.
 pub(crate) fn check_size(rows: Precision<u64>, bytes: Precision<u64>) -> Result<(), Refusal>
     ensures { result ≡ checked (sizes rows bytes) }
 {

@@ -23,7 +23,7 @@ use stats::{ColumnStatistics, Precision, rescale_byte_size};
 
 /// A grouping of a node's rows by keys, in so many sets, with so many columns
 /// more.
-#[derive(Clone, Copy)]
+#[derive(Clone, Copy, PartialEq, Eq, Debug)]
 pub struct Grouping<'k> {
     pub mode: AggregateMode,
     pub sets: u64,

@@ -5,7 +5,7 @@ ghost use Rattle.questions.specs.Types.{max_pairs};
 ghost use Rattle.sheet.specs.declared.operators.Operator.TheVariants as op;
 ghost use Rattle.sheet.specs.Shorts.{kept_as, no_pair};
 ghost use Rattle.sheet.specs.Sheets.{sheet_of, table_of};
-ghost use Rattle.sheet.specs.Views.{seen, told, anti};
+ghost use Rattle.sheet.specs.Views.{seen, told, anti, made_of};
 ghost use Rattle.sheet.specs.Calls.{order, join_of};
 ghost use Rattle.sheet.specs.Made.{join_question, combined_rows, combined, key_columns, part, marked, joined_by, figure_held};
 ghost use Rattle.sheet.specs.Causes.{join_width, early_refusal};
@@ -26,7 +26,7 @@ use questions::{
 use stats::{ColumnStatistics, Precision};
 
 /// A join of two nodes by key pairs.
-#[derive(Clone, Copy)]
+#[derive(Clone, Copy, PartialEq, Eq, Debug)]
 pub struct Join<'p> {
     pub join_type: JoinType,
     pub null_equality: NullEquality,
@@ -35,7 +35,18 @@ pub struct Join<'p> {
     pub on: &'p [KeyPair],
 }
 
+/// A join of two tables, and the figure that it holds.
+#[derive(Clone, Copy)]
+struct Joined<'j, 'p, 't, K> {
+    join: &'j Join<'p>,
+    left: Table<'t, K>,
+    right: Table<'t, K>,
+    figure: Option<Figure>,
+}
+
 /// The width of a join's node.
+// The types are matched as the definitions match them: a grouping of our own would have
+// to be proved equal to theirs at each.
 fn join_width(join_type: JoinType, left: usize, right: usize) -> u128
     ensures { result ≡ join_width join_type left right }
 {
@@ -122,27 +133,6 @@ fn combined_rows(figure: Option<Figure>) -> Precision<u64>
         .to_inexact()
 }
 
-/// Rows and bytes of a join.
-fn join_size<K: Key>(
-    left: &Table<'_, K>,
-    right: &Table<'_, K>,
-    join: &Join<'_>,
-    figure: Option<Figure>,
-) -> (Precision<u64>, Precision<u64>)
-    ensures rows { result.0 ≡ (joined_by join.now.join_type join.now.null_equality join.now.on.now figure (told left.now) (told right.now)).rows }
-    ensures bytes { result.1 ≡ (joined_by join.now.join_type join.now.null_equality join.now.on.now figure (told left.now) (told right.now)).bytes }
-{
-    match join.join_type {
-        JoinType::Inner | JoinType::Full | JoinType::Left | JoinType::Right => {
-            (combined_rows(figure), Precision::Absent)
-        }
-        JoinType::LeftSemi | JoinType::LeftAnti => part_size(left, figure),
-        JoinType::RightSemi | JoinType::RightAnti => part_size(right, figure),
-        JoinType::LeftMark => (left.rows.to_inexact(), Precision::Absent),
-        JoinType::RightMark => (right.rows.to_inexact(), Precision::Absent),
-    }
-}
-
 /// Writes the columns of an inner or an outer join.
 fn put_combined<K: Key>(
     block: &mut [ColumnStatistics<K>],
@@ -160,32 +150,6 @@ fn put_combined<K: Key>(
     loosen(block)
 }
 
-/// Writes the columns of a semi or an anti join on a side.
-fn put_part<K: Key>(
-    block: &mut [ColumnStatistics<K>],
-    from: &Table<'_, K>,
-    join: &Join<'_>,
-    side: JoinSide,
-    kind: PartKind,
-    figure: Option<Figure>,
-)
-    requires { length block.old ≡ length from.now.columns.now }
-    ensures { block.new ≡ (part (anti kind) join.now.null_equality (key_columns side join.now.on.now) figure (told from.now)).columns }
-{
-    let Some(old_rows) = from.rows.get_value() else {
-        return put_unknown(block);
-    };
-    let part = Part {
-        kind,
-        null_equality: join.null_equality,
-        side,
-        on: join.on,
-        old_rows,
-        new_rows: rows_in(figure, from.rows).or_zero(),
-    };
-    part.put(block, from.columns)
-}
-
 /// Writes the columns of a mark join.
 fn put_marked<K: Key>(block: &mut [ColumnStatistics<K>], from: &Table<'_, K>)
     requires { length block.old ≡ length from.now.columns.now + 1 }
@@ -197,28 +161,65 @@ fn put_marked<K: Key>(block: &mut [ColumnStatistics<K>], from: &Table<'_, K>)
     put_both(block, from.columns, &[ColumnStatistics::unknown()])
 }
 
-/// Writes the columns of a join.
-fn put_joined<K: Key>(
-    block: &mut [ColumnStatistics<K>],
-    left: &Table<'_, K>,
-    right: &Table<'_, K>,
-    join: &Join<'_>,
-    figure: Option<Figure>,
-)
-    requires { length block.old ≡ join_width join.now.join_type (length left.now.columns.now) (length right.now.columns.now) }
-    ensures { block.new ≡ (joined_by join.now.join_type join.now.null_equality join.now.on.now figure (told left.now) (told right.now)).columns }
-{
-    let (semi, anti) = (PartKind::Semi, PartKind::Anti);
-    match join.join_type {
-        JoinType::Inner | JoinType::Full | JoinType::Left | JoinType::Right => {
-            put_combined(block, left, right, figure)
+impl<K: Key> Joined<'_, '_, '_, K> {
+    /// Rows and bytes of the join.
+    fn size(&self) -> (Precision<u64>, Precision<u64>)
+        ensures rows { result.0 ≡ (made_of self.now).rows }
+        ensures bytes { result.1 ≡ (made_of self.now).bytes }
+    {
+        match self.join.join_type {
+            JoinType::Inner | JoinType::Full | JoinType::Left | JoinType::Right => {
+                (combined_rows(self.figure), Precision::Absent)
+            }
+            JoinType::LeftSemi | JoinType::LeftAnti => part_size(&self.left, self.figure),
+            JoinType::RightSemi | JoinType::RightAnti => part_size(&self.right, self.figure),
+            JoinType::LeftMark => (self.left.rows.to_inexact(), Precision::Absent),
+            JoinType::RightMark => (self.right.rows.to_inexact(), Precision::Absent),
         }
-        JoinType::LeftSemi => put_part(block, left, join, JoinSide::Left, semi, figure),
-        JoinType::RightSemi => put_part(block, right, join, JoinSide::Right, semi, figure),
-        JoinType::LeftAnti => put_part(block, left, join, JoinSide::Left, anti, figure),
-        JoinType::RightAnti => put_part(block, right, join, JoinSide::Right, anti, figure),
-        JoinType::LeftMark => put_marked(block, left),
-        JoinType::RightMark => put_marked(block, right),
+    }
+
+    /// Writes the columns of a semi or an anti join, of the table on its side.
+    fn put_part(
+        &self,
+        block: &mut [ColumnStatistics<K>],
+        from: &Table<'_, K>,
+        side: JoinSide,
+        kind: PartKind,
+    )
+        requires { length block.old ≡ length from.now.columns.now }
+        ensures { block.new ≡ (part (anti kind) self.now.join.now.null_equality (key_columns side self.now.join.now.on.now) self.now.figure (told from.now)).columns }
+    {
+        let Some(old_rows) = from.rows.get_value() else {
+            return put_unknown(block);
+        };
+        let part = Part {
+            kind,
+            null_equality: self.join.null_equality,
+            side,
+            on: self.join.on,
+            old_rows,
+            new_rows: rows_in(self.figure, from.rows).or_zero(),
+        };
+        part.put(block, from.columns)
+    }
+
+    /// Writes the columns of the join.
+    fn put(&self, block: &mut [ColumnStatistics<K>])
+        requires { length block.old ≡ join_width self.now.join.now.join_type (length self.now.left.columns.now) (length self.now.right.columns.now) }
+        ensures { block.new ≡ (made_of self.now).columns }
+    {
+        let (left, right) = (&self.left, &self.right);
+        match self.join.join_type {
+            JoinType::Inner | JoinType::Full | JoinType::Left | JoinType::Right => {
+                put_combined(block, left, right, self.figure)
+            }
+            JoinType::LeftSemi => self.put_part(block, left, JoinSide::Left, PartKind::Semi),
+            JoinType::RightSemi => self.put_part(block, right, JoinSide::Right, PartKind::Semi),
+            JoinType::LeftAnti => self.put_part(block, left, JoinSide::Left, PartKind::Anti),
+            JoinType::RightAnti => self.put_part(block, right, JoinSide::Right, PartKind::Anti),
+            JoinType::LeftMark => put_marked(block, left),
+            JoinType::RightMark => put_marked(block, right),
+        }
     }
 }
 
@@ -238,8 +239,13 @@ fn write_joined<K: Key>(
     requires wide { length block.old ≡ join_width join.now.join_type left.now.width right.now.width }
     ensures { block.new ≡ (joined_by join.now.join_type join.now.null_equality join.now.on.now figure (table_of used.now left.now) (table_of used.now right.now)).columns }
 {
-    let (left, right) = (table_of(used, left), table_of(used, right));
-    put_joined(block, &left, &right, join, figure)
+    let joined = Joined {
+        join,
+        left: table_of(used, left),
+        right: table_of(used, right),
+        figure,
+    };
+    joined.put(block)
 }
 
 /// What a node keeps of a join.
@@ -279,7 +285,13 @@ pub(crate) fn joined_on<K: Key, E: Estimator<K>>(
     let (l, r) = (view.node(join.left), view.node(join.right));
     let (left, right) = (table_of(columns, &l), table_of(columns, &r));
     let figure = ask(estimator, &left, &right, join);
-    let (rows, bytes) = join_size(&left, &right, join, figure);
+    let joined = Joined {
+        join,
+        left,
+        right,
+        figure,
+    };
+    let (rows, bytes) = joined.size();
     check_size(rows, bytes)?;
     let width = join_width(join.join_type, l.width, r.width) as usize;
     let (used, free) = columns.split_at_mut(head.used);

@@ -13,7 +13,7 @@ use questions::Figure;
 use stats::{ColumnStatistics, Precision};
 
 /// What a node says of its table.
-#[derive(Clone, Copy)]
+#[derive(Clone, Copy, PartialEq, Eq, Debug)]
 pub struct NodeView<'a, K> {
     pub rows: Precision<u64>,
     pub bytes: Precision<u64>,

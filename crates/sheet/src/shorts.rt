@@ -2,6 +2,8 @@
 ghost use Rattle.std.specs.Prelude.{◌≡◌, ◌≤◌, length};
 ghost use Rattle.sheet.specs.Shorts.{kept_as};
 
+use questions::MAX_PAIRS;
+
 /// At most sixteen values: the first `len` of the items. Where memory holds a
 /// larger `len`, all items count.
 // A length beside the items, and no `Vec`: a node lies in memory that is handed in.
@@ -9,7 +11,7 @@ ghost use Rattle.sheet.specs.Shorts.{kept_as};
 // Derived equality compares the places after the values too: of lists that calls made
 // these hold a filler.
 pub struct Short<T> {
-    pub items: [T; 16],
+    pub items: [T; MAX_PAIRS],
     pub len: usize,
 }
 
@@ -18,7 +20,7 @@ pub(crate) fn short_of<T: Copy>(filler: T, values: &[T]) -> Short<T>
     requires { length values.now ≤ 16 }
     ensures { result ≡ kept_as filler values.now }
 {
-    let mut items = [filler; 16];
+    let mut items = [filler; MAX_PAIRS];
     items[..values.len()].copy_from_slice(values);
     Short {
         items,

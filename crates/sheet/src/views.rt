@@ -29,6 +29,7 @@ pub(crate) struct Table<'a, K> {
 }
 
 /// The columns of a node.
+// Asked and in no type: where a block lies is a fact of a node and a memory together.
 pub(crate) fn block_of<'a, K: Key>(
     columns: &'a [ColumnStatistics<K>],
     node: &Node,

@@ -83,8 +83,8 @@ returns-in_err-check_size g c =
     let check = c.in_ok-check_join.ensures in
     let p = err_from_is_err_and c.from_residual-in_err-check_size.result c.from_residual-in_err-check_size.ensures.1 in
     let asked = c.ask-figure.ensures ∙ (λ i. figure_held j.join_type (g.E.Estimator.figure c.args.estimator.now (join_question j.join_type j.null_equality j.on.now (c.table_of-left.ensures i) (c.table_of-right.ensures i)))) in
-    let rows = c.join_size-rows.ensures.rows ∙ (λ i. (joined_by j.join_type j.null_equality j.on.now c.ask-figure.result (c.table_of-left.ensures i) (c.table_of-right.ensures i)).rows) in
-    let bytes = c.join_size-rows.ensures.bytes ∙ (λ i. (joined_by j.join_type j.null_equality j.on.now c.ask-figure.result (c.table_of-left.ensures i) (c.table_of-right.ensures i)).bytes) in
+    let rows = c.size-rows.ensures.rows ∙ (λ i. (joined_by j.join_type j.null_equality j.on.now c.ask-figure.result (c.table_of-left.ensures i) (c.table_of-right.ensures i)).rows) in
+    let bytes = c.size-rows.ensures.bytes ∙ (λ i. (joined_by j.join_type j.null_equality j.on.now c.ask-figure.result (c.table_of-left.ensures i) (c.table_of-right.ensures i)).bytes) in
     size_refused s (operator_of (join_of {K = g.row.K.Denot} j)) (joined (g.E.Estimator.figure c.args.estimator.now) j.join_type j.null_equality j.on.now (table_at s j.left) (table_at s j.right)) _ _ _ _ _
     (join_rows (g.E.Estimator.figure c.args.estimator.now) s j.join_type j.null_equality j.left j.right j.on.now _ _ c.node-l.ensures c.node-r.ensures _ asked _ rows) (join_bytes (g.E.Estimator.figure c.args.estimator.now) s j.join_type j.null_equality j.left j.right j.on.now _ _ c.node-l.ensures c.node-r.ensures _ asked _ bytes) (join_figure (g.E.Estimator.figure c.args.estimator.now) s j.join_type j.null_equality j.left j.right j.on.now _ _ c.node-l.ensures c.node-r.ensures _ asked)
     (wide g.K.Key.relation s j.join_type j.null_equality j.left j.right j.on.now check _ _ c.node-l.ensures c.node-r.ensures (g.E.Estimator.figure c.args.estimator.now)) check
@@ -162,9 +162,9 @@ returns g c =
     let split = c.split_at_mut-used.ensures in
     let added = c.add_node.ensures in
     let asked = c.ask-figure.ensures ∙ (λ i. figure_held j.join_type (g.E.Estimator.figure c.args.estimator.now (join_question j.join_type j.null_equality j.on.now (c.table_of-left.ensures i) (c.table_of-right.ensures i)))) in
-    let rows = c.join_size-rows.ensures.rows ∙ (λ i. (joined_by j.join_type j.null_equality j.on.now c.ask-figure.result (c.table_of-left.ensures i) (c.table_of-right.ensures i)).rows) in
-    let bytes = c.join_size-rows.ensures.bytes ∙ (λ i. (joined_by j.join_type j.null_equality j.on.now c.ask-figure.result (c.table_of-left.ensures i) (c.table_of-right.ensures i)).bytes) in
-    let kept = ap (λ (o : Operator). set s.nodes s.head.count (node_made o c.join_size-rows.result.0 c.join_size-rows.result.1 c.ask-figure.result s.head.used c.join_width-width.result)) c.join_operator.ensures in
+    let rows = c.size-rows.ensures.rows ∙ (λ i. (joined_by j.join_type j.null_equality j.on.now c.ask-figure.result (c.table_of-left.ensures i) (c.table_of-right.ensures i)).rows) in
+    let bytes = c.size-rows.ensures.bytes ∙ (λ i. (joined_by j.join_type j.null_equality j.on.now c.ask-figure.result (c.table_of-left.ensures i) (c.table_of-right.ensures i)).bytes) in
+    let kept = ap (λ (o : Operator). set s.nodes s.head.count (node_made o c.size-rows.result.0 c.size-rows.result.1 c.ask-figure.result s.head.used c.join_width-width.result)) c.join_operator.ensures in
     carried_out s (operator_of (join_of {K = g.row.K.Denot} j)) (joined (g.E.Estimator.figure c.args.estimator.now) j.join_type j.null_equality j.on.now (table_at s j.left) (table_at s j.right)) _ _ _ _ _
     (join_rows (g.E.Estimator.figure c.args.estimator.now) s j.join_type j.null_equality j.left j.right j.on.now _ _ c.node-l.ensures c.node-r.ensures _ asked _ rows) (join_bytes (g.E.Estimator.figure c.args.estimator.now) s j.join_type j.null_equality j.left j.right j.on.now _ _ c.node-l.ensures c.node-r.ensures _ asked _ bytes) (join_figure (g.E.Estimator.figure c.args.estimator.now) s j.join_type j.null_equality j.left j.right j.on.now _ _ c.node-l.ensures c.node-r.ensures _ asked)
     (wide g.K.Key.relation s j.join_type j.null_equality j.left j.right j.on.now check _ _ c.node-l.ensures c.node-r.ensures (g.E.Estimator.figure c.args.estimator.now) ∙ sym c.join_width-width.ensures) check
