@@ -1,6 +1,6 @@
 -- What the passed causes of 1 to 6 say of the memory and of the children. Assumes
 -- nothing.
-use Rattle.std.proofs.Common.{◌≡◌, ℕ, ◌+◌, ◌<◌, ◌≤◌, Bool, true, false, not, ◌&&◌, leb, List, ◌∷◌, length, take, None, Ok, Option, sym, refl, ap, ◌∙◌, arith, rules}
+use Rattle.std.proofs.Common.{◌≡◌, ℕ, ◌+◌, ◌<◌, ◌≤◌, true, not, ◌&&◌, leb, List, ◌∷◌, length, take, Ok, Option, sym, ap, ◌∙◌, arith, rules}
 use Rattle.std.specs.List.{list_all}
 use Rattle.std.proofs.lemmas.Bool.{and_parts, leb-true}
 use Rattle.std.proofs.lemmas.Bool.Decides.{nat_tests}
@@ -11,11 +11,10 @@ use Rattle.stats.specs.Limits.{max_count, max_node_bytes}
 use Rattle.questions.specs.declared.figures.Figure.{Figure}
 use Rattle.questions.specs.Questions.{Question}
 use Rattle.sheet.specs.declared.Node.{Node}
-use Rattle.sheet.specs.declared.refusals.Refusal.{Refusal}
 use Rattle.sheet.specs.declared.refusals.Refusal.TheVariants as refusal
 use Rattle.sheet.specs.Sheets.{Sheet, node_at, block}
 use Rattle.sheet.specs.Calls.{Order, children}
-use Rattle.sheet.specs.Causes.{no_node_memory, block_inside, stands, in_limits, columns_sound, fit_child, count_fits, keys_inside, width_of, same_widths, width_fits, columns_fit, max_width, made, unless, early_refusal}
+use Rattle.sheet.specs.Causes.{no_node_memory, block_inside, stands, in_limits, columns_sound, fit_child, count_fits, keys_inside, width_of, same_widths, width_fits, columns_fit, max_width, made, early_refusal}
 use Rattle.sheet.specs.Steps.{checked}
 use Rattle.sheet.proofs.Refused.{passed, unless_none}
 use Rattle.sheet.proofs.Widths.{block_length, made_wide}

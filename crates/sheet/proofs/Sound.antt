@@ -1,7 +1,7 @@
 -- What every run from a blank sheet keeps: blocks lie one after the other inside
 -- the used part, and each join is what it makes of its children as they stand.
 -- Assumes nothing.
-use Rattle.std.proofs.Common.{◌≡◌, ℕ, ◌+◌, ◌-◌, ◌<◌, ◌≤◌, Bool, true, false, not, ◌&&◌, leb, ◌≢◌, List, [], ◌∷◌, map, length, get_or, Some, None, Option, sym, refl, ap, ◌∙◌, subst, ⊎_elim, arith, below_more}
+use Rattle.std.proofs.Common.{◌≡◌, ℕ, ◌+◌, ◌-◌, ◌<◌, ◌≤◌, true, not, ◌&&◌, leb, ◌≢◌, List, [], ◌∷◌, map, length, get_or, Some, None, Option, sym, refl, ap, ◌∙◌, subst, ⊎_elim, arith, below_more}
 use lib.ListN.{length-map}
 use Rattle.std.specs.List.{AllByRecursion}
 use Rattle.std.specs.Option.{option_or}
@@ -29,7 +29,7 @@ use Rattle.sheet.specs.Shorts.{listed, kept_as, no_key, no_pair}
 use Rattle.sheet.specs.Sheets.{Sheet, no_node, node_at, block, table_of, table_at}
 use Rattle.sheet.specs.Calls.{Order, lay, join, cross, limit, union, group, Call, order, cut, children, operator_of}
 use Rattle.sheet.specs.Made.{Made, joined}
-use Rattle.sheet.specs.Causes.{no_node_memory, short_nodes, block_inside, stands, in_limits, columns_sound, fit_child, count_fits, keys_inside, width_of, width_fits, columns_fit, made, unless, early_refusal, order_refusal, cut_refusal}
+use Rattle.sheet.specs.Causes.{no_node_memory, short_nodes, block_inside, stands, in_limits, columns_sound, fit_child, count_fits, keys_inside, width_of, width_fits, columns_fit, made, early_refusal, order_refusal, cut_refusal}
 use Rattle.sheet.specs.Steps.{with_node, cut_to, settled, step}
 use Rattle.sheet.specs.Laws.{Reached, start, next}
 use Rattle.sheet.proofs.Refused.{unless_none}

@@ -48,6 +48,18 @@ module _ {K : Type 0} (relation : K → K → Relation) (s : Sheet K) (l r : ℕ
   lengths used front =
       (ap (λ d. length (block d left)) front ∙ ap length at_left.same ∙ at_left.wide, ap (λ d. length (block d right)) front ∙ ap length at_right.same ∙ at_right.wide)
 
+  record Facts : Type 0 where
+    pub early : Early relation s (cross l r)
+    pub at_right : Readable s right
+    pub space : s.head.used + (left.width + right.width) ≤ length s.columns
+    pub wide : length makes.columns ≡ left.width + right.width
+    pub rows : both ◌*◌ left.rows right.rows ≡ makes.rows
+    pub blocks : (used : List (ColumnStatistics K)) → used ≡ take s.head.used s.columns → block used left ++ block used right ≡ makes.columns
+    pub lengths : (used : List (ColumnStatistics K)) → used ≡ take s.head.used s.columns → (length (block used left) ≡ left.width) × (length (block used right) ≡ right.width)
+
+  facts : Facts
+  facts = record { early = early; at_right = at_right; space = space; wide = wide; rows = rows; blocks = blocks; lengths = lengths }
+
 pub returns-in_err-check_cross : goal.returns-in_err-check_cross
 returns-in_err-check_cross g c =
     let s = sheet_of c.args.head.now c.args.nodes.now c.args.columns.now in
@@ -58,31 +70,35 @@ pub returns-in_err-check_size : goal.returns-in_err-check_size
 returns-in_err-check_size g c =
     let s = sheet_of c.args.head.now c.args.nodes.now c.args.columns.now in
     let check = c.in_ok-check_cross.ensures in
+    let f = facts g.K.Key.relation s c.args.l c.args.r check _ _ c.node-left.ensures c.node-right.ensures in
     let p = err_from_is_err_and c.from_residual-in_err-check_size.result c.from_residual-in_err-check_size.ensures.1 in
     size_refused s (op.Cross c.args.l c.args.r) (crossed (table_at s c.args.l) (table_at s c.args.r)) _ _ _ None _
-    (c.crossed_rows-rows.ensures ∙ rows g.K.Key.relation s c.args.l c.args.r check _ _ c.node-left.ensures c.node-right.ensures) refl refl
-    (wide g.K.Key.relation s c.args.l c.args.r check _ _ c.node-left.ensures c.node-right.ensures) check
+    (c.crossed_rows-rows.ensures ∙ f.rows) refl refl
+    f.wide check
     _ _ (p.1 ∙ ap Err p.2) c.in_err-check_size.ensures
 
 pub slice_bounds-put_both-end-2 : goal.slice_bounds-put_both-end-2
 slice_bounds-put_both-end-2 g c =
     let s = sheet_of c.args.head.now c.args.nodes.now c.args.columns.now in
-    let h = space g.K.Key.relation s c.args.l c.args.r c.in_ok-check_cross.ensures _ _ c.node-left.ensures c.node-right.ensures in
+    let f = facts g.K.Key.relation s c.args.l c.args.r c.in_ok-check_cross.ensures _ _ c.node-left.ensures c.node-right.ensures in
+    let h = f.space in
     let b = c.split_at_mut-used.ensures.back_len in
     simp length-take (omega arith)
 
 pub block_of-requires-2 : goal.block_of-requires-2
 block_of-requires-2 g c =
     let s = sheet_of c.args.head.now c.args.nodes.now c.args.columns.now in
-    let a = at_right g.K.Key.relation s c.args.l c.args.r c.in_ok-check_cross.ensures _ _ c.node-left.ensures c.node-right.ensures in
-    let f = c.split_at_mut-used.ensures.front_len in
+    let f = facts g.K.Key.relation s c.args.l c.args.r c.in_ok-check_cross.ensures _ _ c.node-left.ensures c.node-right.ensures in
+    let a = f.at_right in
+    let l = c.split_at_mut-used.ensures.front_len in
     omega (arith, a.below)
 
 pub put_both-requires : goal.put_both-requires
 put_both-requires g c =
     let s = sheet_of c.args.head.now c.args.nodes.now c.args.columns.now in
-    let h = space g.K.Key.relation s c.args.l c.args.r c.in_ok-check_cross.ensures _ _ c.node-left.ensures c.node-right.ensures in
-    let w = lengths g.K.Key.relation s c.args.l c.args.r c.in_ok-check_cross.ensures _ _ c.node-left.ensures c.node-right.ensures _ c.split_at_mut-used.ensures.front in
+    let f = facts g.K.Key.relation s c.args.l c.args.r c.in_ok-check_cross.ensures _ _ c.node-left.ensures c.node-right.ensures in
+    let h = f.space in
+    let w = f.lengths _ c.split_at_mut-used.ensures.front in
     let b = c.split_at_mut-used.ensures.back_len in
     simp length-take (omega (arith, ap length c.block_of.ensures, ap length c.block_of-2.ensures))
 
@@ -90,10 +106,11 @@ pub add_node-requires : goal.add_node-requires
 add_node-requires g c =
     let s = sheet_of c.args.head.now c.args.nodes.now c.args.columns.now in
     let check = c.in_ok-check_cross.ensures in
-    let h = space g.K.Key.relation s c.args.l c.args.r check _ _ c.node-left.ensures c.node-right.ensures in
+    let f = facts g.K.Key.relation s c.args.l c.args.r check _ _ c.node-left.ensures c.node-right.ensures in
+    let h = f.space in
     let split = c.split_at_mut-used.ensures in
     record {
-      room = (early g.K.Key.relation s c.args.l c.args.r check _ _ c.node-left.ensures c.node-right.ensures).room;
+      room = f.early.room;
       space = omega (arith, ap length split.value, length-append {A = ColumnStatistics g.row.K.Denot}, length-drop {A = ColumnStatistics g.row.K.Denot}, split.front_len, c.put_both.auto.block, length-take {A = ColumnStatistics g.row.K.Denot});
     }
 
@@ -101,12 +118,13 @@ pub returns : goal.returns
 returns g c =
     let s = sheet_of c.args.head.now c.args.nodes.now c.args.columns.now in
     let check = c.in_ok-check_cross.ensures in
+    let f = facts g.K.Key.relation s c.args.l c.args.r check _ _ c.node-left.ensures c.node-right.ensures in
     let split = c.split_at_mut-used.ensures in
     let added = c.add_node.ensures in
     carried_out s (op.Cross c.args.l c.args.r) (crossed (table_at s c.args.l) (table_at s c.args.r)) _ _ _ None _
-    (c.crossed_rows-rows.ensures ∙ rows g.K.Key.relation s c.args.l c.args.r check _ _ c.node-left.ensures c.node-right.ensures) refl refl
-    (wide g.K.Key.relation s c.args.l c.args.r check _ _ c.node-left.ensures c.node-right.ensures) check
-    c.in_ok-check_size.ensures (space g.K.Key.relation s c.args.l c.args.r check _ _ c.node-left.ensures c.node-right.ensures)
+    (c.crossed_rows-rows.ensures ∙ f.rows) refl refl
+    f.wide check
+    c.in_ok-check_size.ensures f.space
     _ _ _ split.value split.front_len
-    (c.put_both.ensures ∙ (λ i. c.block_of.ensures i ++ c.block_of-2.ensures i) ∙ blocks g.K.Key.relation s c.args.l c.args.r check _ _ c.node-left.ensures c.node-right.ensures _ split.front)
+    (c.put_both.ensures ∙ (λ i. c.block_of.ensures i ++ c.block_of-2.ensures i) ∙ f.blocks _ split.front)
     _ _ _ _ added.number added.counts added.adds added.trims

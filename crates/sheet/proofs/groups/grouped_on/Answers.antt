@@ -36,6 +36,17 @@ module _ {K : Type 0} (relation : K → K → Relation) (s : Sheet K) (mode : Ag
   child_of : (from : Node) → from ≡ node_at s child → Readable s from
   child_of from is = first_readable relation s (group mode sets extras child keys) early child [] refl from is
 
+  record Facts : Type 0 where
+    pub early : Early relation s (group mode sets extras child keys)
+    pub space : s.head.used + (length keys + extras) ≤ length s.columns
+    pub narrow : length keys + extras ≤ 64
+    pub few : length keys ≤ 16
+    pub wide : length (grouped mode sets extras keys (table_at s child)).columns ≡ length keys + extras
+    pub child_of : (from : Node) → from ≡ node_at s child → Readable s from
+
+  facts : Facts
+  facts = record { early = early; space = space; narrow = narrow; few = few; wide = wide; child_of = child_of }
+
 pub returns-in_err-check_group : goal.returns-in_err-check_group
 returns-in_err-check_group g c =
     let s = sheet_of c.args.head.now c.args.nodes.now c.args.columns.now in
@@ -48,6 +59,7 @@ returns-in_err-check_size g c =
     let s = sheet_of c.args.head.now c.args.nodes.now c.args.columns.now in
     let b = c.args.grouping.now in
     let check = c.in_ok-check_group.ensures in
+    let f = facts g.K.Key.relation s b.mode b.sets b.extras b.child b.by.now check in
     let from = c.node-from.ensures in
     let counted = c.count_groups-groups.ensures ∙ ap (group_count b.mode b.sets b.by.now) c.block_of.ensures in
     let p = err_from_is_err_and c.from_residual-in_err-check_size.result c.from_residual-in_err-check_size.ensures.1 in
@@ -55,21 +67,23 @@ returns-in_err-check_size g c =
     (group_rows s b.child b.mode b.sets b.extras b.by.now _ from _ counted _ c.group_size-rows.ensures.rows)
     (group_bytes s b.child b.mode b.sets b.extras b.by.now _ from _ counted _ c.group_size-rows.ensures.bytes)
     (group_figure s b.child b.mode b.sets b.extras b.by.now _ from _ counted)
-    (wide g.K.Key.relation s b.mode b.sets b.extras b.child b.by.now check) check
+    f.wide check
     _ _ (p.1 ∙ ap Err p.2) c.in_err-check_size.ensures
 
 pub overflow_add-width : goal.overflow_add-width
 overflow_add-width g c =
     let s = sheet_of c.args.head.now c.args.nodes.now c.args.columns.now in
     let b = c.args.grouping.now in
-    let n = narrow g.K.Key.relation s b.mode b.sets b.extras b.child b.by.now c.in_ok-check_group.ensures in
+    let f = facts g.K.Key.relation s b.mode b.sets b.extras b.child b.by.now c.in_ok-check_group.ensures in
+    let n = f.narrow in
     omega arith
 
 pub split_at_mut-used-requires : goal.split_at_mut-used-requires
 split_at_mut-used-requires g c =
     let s = sheet_of c.args.head.now c.args.nodes.now c.args.columns.now in
     let b = c.args.grouping.now in
-    let h = space g.K.Key.relation s b.mode b.sets b.extras b.child b.by.now c.in_ok-check_group.ensures in
+    let f = facts g.K.Key.relation s b.mode b.sets b.extras b.child b.by.now c.in_ok-check_group.ensures in
+    let h = f.space in
     omega arith
 
 pub slice_bounds-put_grouped-end : goal.slice_bounds-put_grouped-end
@@ -77,8 +91,9 @@ slice_bounds-put_grouped-end g c =
     let s = sheet_of c.args.head.now c.args.nodes.now c.args.columns.now in
     let b = c.args.grouping.now in
     let check = c.in_ok-check_group.ensures in
+    let f = facts g.K.Key.relation s b.mode b.sets b.extras b.child b.by.now check in
     let split = c.split_at_mut-used.ensures in
-    let h = space g.K.Key.relation s b.mode b.sets b.extras b.child b.by.now check in
+    let h = f.space in
     omega (arith, split.back_len)
 
 pub slice_bounds-put_grouped-end-2 : goal.slice_bounds-put_grouped-end-2
@@ -86,14 +101,16 @@ slice_bounds-put_grouped-end-2 g c =
     let s = sheet_of c.args.head.now c.args.nodes.now c.args.columns.now in
     let b = c.args.grouping.now in
     let check = c.in_ok-check_group.ensures in
+    let f = facts g.K.Key.relation s b.mode b.sets b.extras b.child b.by.now check in
     let split = c.split_at_mut-used.ensures in
-    sym (free_wide s.columns _ _ s.head.used _ split.value split.front_len (space g.K.Key.relation s b.mode b.sets b.extras b.child b.by.now check))
+    sym (free_wide s.columns _ _ s.head.used _ split.value split.front_len f.space)
 
 pub block_of-requires-2 : goal.block_of-requires-2
 block_of-requires-2 g c =
     let s = sheet_of c.args.head.now c.args.nodes.now c.args.columns.now in
     let b = c.args.grouping.now in
-    let r = child_of g.K.Key.relation s b.mode b.sets b.extras b.child b.by.now c.in_ok-check_group.ensures _ c.node-from.ensures in
+    let f = facts g.K.Key.relation s b.mode b.sets b.extras b.child b.by.now c.in_ok-check_group.ensures in
+    let r = f.child_of _ c.node-from.ensures in
     omega (arith, r.below, c.split_at_mut-used.ensures.front_len)
 
 pub put_grouped-requires : goal.put_grouped-requires
@@ -101,24 +118,27 @@ put_grouped-requires g c =
     let s = sheet_of c.args.head.now c.args.nodes.now c.args.columns.now in
     let b = c.args.grouping.now in
     let check = c.in_ok-check_group.ensures in
+    let f = facts g.K.Key.relation s b.mode b.sets b.extras b.child b.by.now check in
     let split = c.split_at_mut-used.ensures in
-    free_wide s.columns _ _ s.head.used _ split.value split.front_len (space g.K.Key.relation s b.mode b.sets b.extras b.child b.by.now check)
+    free_wide s.columns _ _ s.head.used _ split.value split.front_len f.space
 
 pub short_of-requires : goal.short_of-requires
 short_of-requires g c =
     let s = sheet_of c.args.head.now c.args.nodes.now c.args.columns.now in
     let b = c.args.grouping.now in
-    (omega arith, few g.K.Key.relation s b.mode b.sets b.extras b.child b.by.now c.in_ok-check_group.ensures)
+    let f = facts g.K.Key.relation s b.mode b.sets b.extras b.child b.by.now c.in_ok-check_group.ensures in
+    (omega arith, f.few)
 
 pub add_node-requires : goal.add_node-requires
 add_node-requires g c =
     let s = sheet_of c.args.head.now c.args.nodes.now c.args.columns.now in
     let b = c.args.grouping.now in
     let check = c.in_ok-check_group.ensures in
+    let f = facts g.K.Key.relation s b.mode b.sets b.extras b.child b.by.now check in
     let split = c.split_at_mut-used.ensures in
     record {
-      room = (early g.K.Key.relation s b.mode b.sets b.extras b.child b.by.now check).room;
-      space = added_space s.columns _ _ s.head.used _ split.value split.front_len (space g.K.Key.relation s b.mode b.sets b.extras b.child b.by.now check) _ c.put_grouped.auto.block;
+      room = f.early.room;
+      space = added_space s.columns _ _ s.head.used _ split.value split.front_len f.space _ c.put_grouped.auto.block;
     }
 
 pub returns : goal.returns
@@ -126,11 +146,12 @@ returns g c =
     let s = sheet_of c.args.head.now c.args.nodes.now c.args.columns.now in
     let b = c.args.grouping.now in
     let check = c.in_ok-check_group.ensures in
+    let f = facts g.K.Key.relation s b.mode b.sets b.extras b.child b.by.now check in
     let split = c.split_at_mut-used.ensures in
     let added = c.add_node.ensures in
     let from = c.node-from.ensures in
     let counted = c.count_groups-groups.ensures ∙ ap (group_count b.mode b.sets b.by.now) c.block_of.ensures in
-    let child = child_of g.K.Key.relation s b.mode b.sets b.extras b.child b.by.now check _ from in
+    let child = f.child_of _ from in
     let columns = c.block_of-2.ensures ∙ ap (λ d. block d c.node-from.result) split.front ∙ child.same in
     let groups = c.count_groups-groups.result in
     let written = c.put_grouped.ensures c.node-from.result.rows c.node-from.result.bytes ∙ ap (λ cs. (grouped_by groups b.extras b.by.now (record { rows = c.node-from.result.rows; bytes = c.node-from.result.bytes; columns = cs })).columns) columns in
@@ -139,8 +160,8 @@ returns g c =
     (group_rows s b.child b.mode b.sets b.extras b.by.now _ from _ counted _ c.group_size-rows.ensures.rows)
     (group_bytes s b.child b.mode b.sets b.extras b.by.now _ from _ counted _ c.group_size-rows.ensures.bytes)
     (group_figure s b.child b.mode b.sets b.extras b.by.now _ from _ counted)
-    (wide g.K.Key.relation s b.mode b.sets b.extras b.child b.by.now check) check
-    c.in_ok-check_size.ensures (space g.K.Key.relation s b.mode b.sets b.extras b.child b.by.now check)
+    f.wide check
+    c.in_ok-check_size.ensures f.space
     _ _ _ split.value split.front_len
     (group_columns s b.child b.mode b.sets b.extras b.by.now _ from _ counted _ written)
     _ _ _ _ added.number added.counts (added.adds ∙ kept) added.trims

@@ -41,6 +41,17 @@ module _ {K : Type 0} (relation : K → K → Relation) (s : Sheet K) (child ski
   block_is : (used : List (ColumnStatistics K)) → used ≡ take s.head.used s.columns → map column_inexact (block used from) ≡ makes.columns
   block_is used front = ap (map column_inexact) ((λ i. block (front i) from) ∙ child_of.same ∙ ap (block s.columns) is)
 
+  record Facts : Type 0 where
+    pub child_of : Readable s from
+    pub space : s.head.used + from.width ≤ length s.columns
+    pub wide : length makes.columns ≡ from.width
+    pub rows_are : (rows : Precision ℕ) → rows ≡ limit_rows skip fetch from.rows → rows ≡ makes.rows
+    pub bytes_are : (rows bytes : Precision ℕ) → rows ≡ limit_rows skip fetch from.rows → bytes ≡ rescaled_bytes from.bytes from.rows rows → bytes ≡ makes.bytes
+    pub block_is : (used : List (ColumnStatistics K)) → used ≡ take s.head.used s.columns → map column_inexact (block used from) ≡ makes.columns
+
+  facts : Facts
+  facts = record { child_of = child_of; space = space; wide = wide; rows_are = rows_are; bytes_are = bytes_are; block_is = block_is }
+
 pub returns-in_err-check_limit : goal.returns-in_err-check_limit
 returns-in_err-check_limit g c =
     let s = sheet_of c.args.head.now c.args.nodes.now c.args.columns.now in
@@ -51,33 +62,36 @@ pub returns-in_err-check_size : goal.returns-in_err-check_size
 returns-in_err-check_size g c =
     let s = sheet_of c.args.head.now c.args.nodes.now c.args.columns.now in
     let check = c.in_ok-check_limit.ensures in
+    let f = facts g.K.Key.relation s c.args.child c.args.skip c.args.fetch check _ c.node-from.ensures in
     let p = err_from_is_err_and c.from_residual-in_err-check_size.result c.from_residual-in_err-check_size.ensures.1 in
     size_refused s (op.Limit c.args.child c.args.skip c.args.fetch) (limited c.args.skip c.args.fetch (table_at s c.args.child)) _ _ _ None _
-    (rows_are g.K.Key.relation s c.args.child c.args.skip c.args.fetch check _ c.node-from.ensures _ c.limited_rows-rows.ensures)
-    (bytes_are g.K.Key.relation s c.args.child c.args.skip c.args.fetch check _ c.node-from.ensures _ _ c.limited_rows-rows.ensures c.rescale_byte_size-bytes.ensures.value) refl
-    (wide g.K.Key.relation s c.args.child c.args.skip c.args.fetch check _ c.node-from.ensures) check
+    (f.rows_are _ c.limited_rows-rows.ensures)
+    (f.bytes_are _ _ c.limited_rows-rows.ensures c.rescale_byte_size-bytes.ensures.value) refl
+    f.wide check
     _ _ (p.1 ∙ ap Err p.2) c.in_err-check_size.ensures
 
 pub put_loosened-requires : goal.put_loosened-requires
 put_loosened-requires g c =
     let s = sheet_of c.args.head.now c.args.nodes.now c.args.columns.now in
     let check = c.in_ok-check_limit.ensures in
+    let f = facts g.K.Key.relation s c.args.child c.args.skip c.args.fetch check _ c.node-from.ensures in
     let split = c.split_at_mut-used.ensures in
-    let from = child_of g.K.Key.relation s c.args.child c.args.skip c.args.fetch check _ c.node-from.ensures in
-    free_wide s.columns _ _ s.head.used _ split.value split.front_len (space g.K.Key.relation s c.args.child c.args.skip c.args.fetch check _ c.node-from.ensures) ∙
+    let from = f.child_of in
+    free_wide s.columns _ _ s.head.used _ split.value split.front_len f.space ∙
     sym (ap length c.block_of.ensures ∙ ap (λ d. length (block d c.node-from.result)) split.front ∙ ap length from.same ∙ from.wide)
 
 pub returns : goal.returns
 returns g c =
     let s = sheet_of c.args.head.now c.args.nodes.now c.args.columns.now in
     let check = c.in_ok-check_limit.ensures in
+    let f = facts g.K.Key.relation s c.args.child c.args.skip c.args.fetch check _ c.node-from.ensures in
     let split = c.split_at_mut-used.ensures in
     let added = c.add_node.ensures in
     carried_out s (op.Limit c.args.child c.args.skip c.args.fetch) (limited c.args.skip c.args.fetch (table_at s c.args.child)) _ _ _ None _
-    (rows_are g.K.Key.relation s c.args.child c.args.skip c.args.fetch check _ c.node-from.ensures _ c.limited_rows-rows.ensures)
-    (bytes_are g.K.Key.relation s c.args.child c.args.skip c.args.fetch check _ c.node-from.ensures _ _ c.limited_rows-rows.ensures c.rescale_byte_size-bytes.ensures.value) refl
-    (wide g.K.Key.relation s c.args.child c.args.skip c.args.fetch check _ c.node-from.ensures) check
-    c.in_ok-check_size.ensures (space g.K.Key.relation s c.args.child c.args.skip c.args.fetch check _ c.node-from.ensures)
+    (f.rows_are _ c.limited_rows-rows.ensures)
+    (f.bytes_are _ _ c.limited_rows-rows.ensures c.rescale_byte_size-bytes.ensures.value) refl
+    f.wide check
+    c.in_ok-check_size.ensures f.space
     _ _ _ split.value split.front_len
-    (c.put_loosened.ensures ∙ ap (map column_inexact) c.block_of.ensures ∙ block_is g.K.Key.relation s c.args.child c.args.skip c.args.fetch check _ c.node-from.ensures _ split.front)
+    (c.put_loosened.ensures ∙ ap (map column_inexact) c.block_of.ensures ∙ f.block_is _ split.front)
     _ _ _ _ added.number added.counts added.adds added.trims
