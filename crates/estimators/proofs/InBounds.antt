@@ -1,7 +1,6 @@
 -- The figures of our estimators stay in bounds. Assumes nothing.
 use Rattle.std.proofs.Common.{◌≡◌, ℕ, ◌+◌, ◌≤◌, max, Bool, true, false, cond, Some, None, Option, sym, arith}
 use Rattle.keys.specs.declared.Relation.{Relation}
-use Rattle.keys.specs.NoValue.{no_value}
 use Rattle.stats.specs.declared.exactness.Precision.{Precision}
 use Rattle.stats.specs.declared.exactness.Precision.TheVariants as rows
 use Rattle.stats.specs.Precisions.{known, both}
@@ -24,22 +23,13 @@ use Rattle.estimators.specs.WidestLaws.{widest_shares}
 use Rattle.estimators.specs.ProductLaws.{product_shares}
 
 -- ---- each of two figures that add up to the rows is at most the rows
-first_within : (a b : Option Figure) (rows : Precision ℕ) (f : Figure) (n : ℕ) → AddUp a b rows → a ≡ Some f → known rows ≡ Some n → amount f ≤ n
-first_within None b rows f n h e k = no_value e
-first_within (Some x) None rows f n h e k = absurd h
-first_within (Some x) (Some y) rows f n h e k =
-    let i : x ≡ f = cc in
+within : (a b : Option Figure) (rows : Precision ℕ) (n : ℕ) → AddUp a b rows → known rows ≡ Some n → ((f : Figure) → a ≡ Some f → amount f ≤ n) × ((f : Figure) → b ≡ Some f → amount f ≤ n)
+within None None rows n h k = (λ f e. cc, λ f e. cc)
+within None (Some y) rows n h k = absurd h
+within (Some x) None rows n h k = absurd h
+within (Some x) (Some y) rows n h k =
     let j : n ≡ amount x + amount y = cc in
-    rw (sym i) (omega arith)
-
-second_within : (a b : Option Figure) (rows : Precision ℕ) (f : Figure) (n : ℕ) → AddUp a b rows → b ≡ Some f → known rows ≡ Some n → amount f ≤ n
-second_within None None rows f n h e k = no_value e
-second_within None (Some y) rows f n h e k = absurd h
-second_within (Some x) None rows f n h e k = no_value e
-second_within (Some x) (Some y) rows f n h e k =
-    let i : y ≡ f = cc in
-    let j : n ≡ amount x + amount y = cc in
-    rw (sym i) (omega arith)
+    (λ f e. let i : x ≡ f = cc in rw (sym i) (omega arith), λ f e. let i : y ≡ f = cc in rw (sym i) (omega arith))
 
 module _ {K : Type 0} (figure : Question K → Option Figure) (shares : Shares figure) where
   shared : (s : JoinSide) (q : Question K) → AddUp (figure (of_type (semi_type s) q)) (figure (of_type (anti_type s) q)) (this_input s q).rows
@@ -48,24 +38,24 @@ module _ {K : Type 0} (figure : Question K → Option Figure) (shares : Shares f
 
   bounded : ((s : JoinSide) (q : Question K) (f : Figure) (n : ℕ) → figure (of_type (outer_type s) q) ≡ Some f → known (this_input s q).rows ≡ Some n → n ≤ amount f) → Bounds figure
   bounded outer = record {
-    semi = λ s q f n e k. first_within (figure (of_type (semi_type s) q)) (figure (of_type (anti_type s) q)) (this_input s q).rows f n (shared s q) e k;
-    anti = λ s q f n e k. second_within (figure (of_type (semi_type s) q)) (figure (of_type (anti_type s) q)) (this_input s q).rows f n (shared s q) e k;
+    semi = λ s q f n e k. (within _ _ (this_input s q).rows n (shared s q) k).0 f e;
+    anti = λ s q f n e k. (within _ _ (this_input s q).rows n (shared s q) k).1 f e;
     outer = outer;
   }
 
 -- ---- outer joins
 from_cond : (b : Bool) (o : Option Figure) (f : Figure) → cond b o None ≡ Some f → o ≡ Some f
 from_cond true o f e = e
-from_cond false o f e = no_value e
+from_cond false o f e = cc
 
 max_holds : (p q : Precision ℕ) (f : Figure) (n : ℕ) → figure_of (both max p q) ≡ Some f → known q ≡ Some n → n ≤ amount f
 max_holds (rows.Exact a) (rows.Exact b) f n e k = let i : Exact (max a b) ≡ f = cc in let j : b ≡ n = cc in rw (sym i) (omega arith)
 max_holds (rows.Exact a) (rows.Inexact b) f n e k = let i : Inexact (max a b) ≡ f = cc in let j : b ≡ n = cc in rw (sym i) (omega arith)
-max_holds (rows.Exact a) rows.Absent f n e k = no_value e
+max_holds (rows.Exact a) rows.Absent f n e k = cc
 max_holds (rows.Inexact a) (rows.Exact b) f n e k = let i : Inexact (max a b) ≡ f = cc in let j : b ≡ n = cc in rw (sym i) (omega arith)
 max_holds (rows.Inexact a) (rows.Inexact b) f n e k = let i : Inexact (max a b) ≡ f = cc in let j : b ≡ n = cc in rw (sym i) (omega arith)
-max_holds (rows.Inexact a) rows.Absent f n e k = no_value e
-max_holds rows.Absent q f n e k = no_value e
+max_holds (rows.Inexact a) rows.Absent f n e k = cc
+max_holds rows.Absent q f n e k = cc
 
 module _ {K : Type 0} (relation : K → K → Relation) (size : K → K → Option ℕ) where
   widest_outer : (s : JoinSide) (q : Question K) (f : Figure) (n : ℕ) → widest_figure relation size (of_type (outer_type s) q) ≡ Some f → known (this_input s q).rows ≡ Some n → n ≤ amount f
@@ -76,14 +66,14 @@ module _ {K : Type 0} (relation : K → K → Relation) (size : K → K → Opti
   widest_bounds = bounded (widest_figure relation size) (widest_shares relation size) widest_outer
 
 left_holds : (l r p : Option ℕ) (f : Figure) (n : ℕ) → product_of join.Left l r p ≡ Some f → l ≡ Some n → n ≤ amount f
-left_holds (Some l) (Some r) p f n e k = let i : Inexact (max (joined_by l r p) l) ≡ f = cc in let j : l ≡ n = cc in rw (sym i) (omega arith)
-left_holds (Some l) None p f n e k = no_value e
-left_holds None r p f n e k = no_value e
+left_holds (Some l) (Some r) p f n e k = max_holds (rows.Inexact (joined_by l r p)) (rows.Inexact l) f n e k
+left_holds (Some l) None p f n e k = cc
+left_holds None r p f n e k = cc
 
 right_holds : (l r p : Option ℕ) (f : Figure) (n : ℕ) → product_of join.Right l r p ≡ Some f → r ≡ Some n → n ≤ amount f
-right_holds (Some l) (Some r) p f n e k = let i : Inexact (max (joined_by l r p) r) ≡ f = cc in let j : r ≡ n = cc in rw (sym i) (omega arith)
-right_holds (Some l) None p f n e k = no_value e
-right_holds None r p f n e k = no_value e
+right_holds (Some l) (Some r) p f n e k = max_holds (rows.Inexact (joined_by l r p)) (rows.Inexact r) f n e k
+right_holds (Some l) None p f n e k = cc
+right_holds None r p f n e k = cc
 
 module _ {K : Type 0} (relation : K → K → Relation) where
   product_outer : (s : JoinSide) (q : Question K) (f : Figure) (n : ℕ) → product_figure relation (of_type (outer_type s) q) ≡ Some f → known (this_input s q).rows ≡ Some n → n ≤ amount f

@@ -8,7 +8,6 @@ use Rattle.keys.specs.declared.Relation.TheVariants.{Before, Equal, After, Unrel
 use Rattle.keys.specs.Relations.{turned, AtOrBefore}
 use Rattle.keys.specs.Laws.{Lawful}
 use Rattle.keys.proofs.OrderLaws.{before_at, not_before_itself}
-use Rattle.keys.specs.NoValue.{no_value}
 use Rattle.stats.specs.declared.exactness.Precision.{Precision}
 use Rattle.stats.specs.declared.exactness.Precision.TheVariants.{Exact, Inexact, Absent}
 use Rattle.stats.specs.declared.columns.ColumnStatistics.{ColumnStatistics}
@@ -33,11 +32,11 @@ pub record Parts {S T U : Type 0} (op : S → T → U) (p : Precision S) (q : Pr
 parts : {S T U : Type 0} (op : S → T → U) (p : Precision S) (q : Precision T) (u : U) → known (both op p q) ≡ Some u → Parts op p q u
 parts op (Exact a) (Exact b) u e = record { first = a; second = b; first_is = refl; second_is = refl; result = cc }
 parts op (Exact a) (Inexact b) u e = record { first = a; second = b; first_is = refl; second_is = refl; result = cc }
-parts op (Exact a) Absent u e = no_value e
+parts op (Exact a) Absent u e = cc
 parts op (Inexact a) (Exact b) u e = record { first = a; second = b; first_is = refl; second_is = refl; result = cc }
 parts op (Inexact a) (Inexact b) u e = record { first = a; second = b; first_is = refl; second_is = refl; result = cc }
-parts op (Inexact a) Absent u e = no_value e
-parts op Absent q u e = no_value e
+parts op (Inexact a) Absent u e = cc
+parts op Absent q u e = cc
 
 after_is : (r : Relation) → is_after r ≡ true → r ≡ After
 after_is Before h = absurd (both_ways false refl h)
@@ -64,16 +63,16 @@ at_or_before Unrelated h = absurd (both_ways false refl h)
 present_passes : (p : Precision Relation) (r : Relation) → if_present at_or_after p ≡ true → known p ≡ Some r → at_or_after r ≡ true
 present_passes (Exact s) r h e = let i : s ≡ r = cc in rw (sym i) h
 present_passes (Inexact s) r h e = let i : s ≡ r = cc in rw (sym i) h
-present_passes Absent r h e = no_value e
+present_passes Absent r h e = cc
 
 both_known : {S T U : Type 0} (op : S → T → U) (p : Precision S) (q : Precision T) (a : S) (b : T) → known p ≡ Some a → known q ≡ Some b → known (both op p q) ≡ Some (op a b)
 both_known op (Exact x) (Exact y) a b d e = let i : x ≡ a = cc in let j : y ≡ b = cc in λ k. Some (op (i k) (j k))
 both_known op (Exact x) (Inexact y) a b d e = let i : x ≡ a = cc in let j : y ≡ b = cc in λ k. Some (op (i k) (j k))
-both_known op (Exact x) Absent a b d e = no_value e
+both_known op (Exact x) Absent a b d e = cc
 both_known op (Inexact x) (Exact y) a b d e = let i : x ≡ a = cc in let j : y ≡ b = cc in λ k. Some (op (i k) (j k))
 both_known op (Inexact x) (Inexact y) a b d e = let i : x ≡ a = cc in let j : y ≡ b = cc in λ k. Some (op (i k) (j k))
-both_known op (Inexact x) Absent a b d e = no_value e
-both_known op Absent q a b d e = no_value d
+both_known op (Inexact x) Absent a b d e = cc
+both_known op Absent q a b d e = cc
 
 module _ {K : Type 0} {relation : K → K → Relation} {size : K → K → Option ℕ} (laws : Lawful relation size) where
   -- the ends of a lawful column, in order

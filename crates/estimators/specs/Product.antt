@@ -1,8 +1,9 @@
 -- What Product answers: the product of the rows, divided by the product of the
 -- larger distinct counts of all pairs. Assumes nothing.
-use Rattle.std.specs.Prelude.{ℕ, ◌+◌, ◌-◌, ◌*◌, ◌/◌, ◌^◌, ◌<◌, min, max, cond, List, Some, None, fold, Option, ◌==◌}
+use Rattle.std.specs.Prelude.{ℕ, ◌+◌, ◌-◌, ◌*◌, ◌/◌, ◌<◌, min, max, cond, List, Some, None, fold, Option, ◌==◌}
 use Rattle.keys.specs.declared.Relation.{Relation}
 use Rattle.stats.specs.Precisions.{known}
+use Rattle.stats.specs.Products as counts
 use Rattle.questions.specs.declared.types.JoinType.{JoinType}
 use Rattle.questions.specs.declared.types.JoinType.TheVariants as join
 use Rattle.questions.specs.declared.types.JoinSide.TheVariants.{Left}
@@ -21,9 +22,7 @@ larger_distinct None o = None
 
 -- a product that stops at 2 ^ 64 - 1
 abbrev pub stopping_product : Option ℕ → Option ℕ → Option ℕ
-stopping_product (Some p) (Some d) = Some (min (p * d) (2 ^ 64 - 1))
-stopping_product (Some p) None = None
-stopping_product None d = None
+stopping_product p d = counts.stopping_product p d
 
 -- P; none where a pair lacks a count, 1 for no pairs
 abbrev pub divisor : {K : Type 0} → List (KeyColumns K) → Option ℕ

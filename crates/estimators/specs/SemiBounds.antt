@@ -7,7 +7,6 @@ use Rattle.std.specs.Float.{float_one, float_zero, binary64}
 use Rattle.std.specs.Option.{option_map}
 use Rattle.std.proofs.lemmas.Bool.{leb-true, eqb-false, both_ways}
 use Rattle.keys.specs.declared.Relation.{Relation}
-use Rattle.keys.specs.NoValue.{no_value}
 use Rattle.floats.specs.Counts.{float}
 use Rattle.floats.proofs.Fractions.{float_value}
 use Rattle.floats.proofs.Upto.{Upto, mul_upto, div_upto, rest_upto, one_upto, zero_upto, times_upto, ceil_upto}
@@ -115,7 +114,7 @@ positive false n h = let z = eqb-false n 0 h in omega arith
 few_known : (p : Precision ℕ) (m : ℕ) → AtMost (2 ^ 26) p → known p ≡ Some m → m ≤ 2 ^ 26
 few_known (Exact v) m h e = let i : v ≡ m = cc in omega arith
 few_known (Inexact v) m h e = let i : v ≡ m = cc in omega arith
-few_known Absent m h e = no_value e
+few_known Absent m h e = cc
 
 -- the kept rows with a match are no more than the kept rows
 pub semi_le : {K : Type 0} (relation : K → K → Relation) (size : K → K → Option ℕ) (rule : NullEquality) (n : ℕ) (kept others : Precision ℕ) (ks : List (KeyColumns K)) → AtMost (2 ^ 26) kept → AtMost (2 ^ 26) others → known kept ≡ Some n → AtMostRows n (semi_of relation size rule (Some n) kept others ks)

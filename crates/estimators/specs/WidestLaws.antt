@@ -5,7 +5,6 @@ use Rattle.std.specs.Option.{option_map}
 use Rattle.std.proofs.lemmas.Bool.{leb-true}
 use Rattle.keys.specs.declared.Relation.{Relation}
 use Rattle.keys.specs.Laws.{Lawful}
-use Rattle.keys.specs.NoValue.{no_value}
 use Rattle.stats.specs.declared.exactness.Precision.{Precision}
 use Rattle.stats.specs.declared.exactness.Precision.TheVariants.{Exact, Inexact, Absent}
 use Rattle.stats.specs.Precisions.{known, both, or_zero, total, at_most, AtMost}
@@ -38,7 +37,7 @@ rest_adds_up (Inexact v) n None e h = tt
 rest_adds_up Absent n None e h = tt
 rest_adds_up (Exact v) n (Some m) e h = let i : v ≡ n = cc in ap Some (omega arith)
 rest_adds_up (Inexact v) n (Some m) e h = let i : v ≡ n = cc in ap Some (omega arith)
-rest_adds_up Absent n (Some m) e h = no_value e
+rest_adds_up Absent n (Some m) e h = cc
 
 pub share_cond : (b : Bool) (x y : Option Figure) (rows : Precision ℕ) → (b ≡ true → AddUp x y rows) → AddUp (cond b x None) (cond b y None) rows
 share_cond true x y rows h = h refl

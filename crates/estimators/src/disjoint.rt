@@ -5,7 +5,7 @@ ghost use Rattle.estimators.specs.KeyColumns.{keys_from};
 ghost use Rattle.estimators.specs.Disjoint.{low_past_high, ranges_apart, no_null_match, disjoint_pair, disjoint};
 
 use crate::pairs::{KeyColumns, Side};
-use crate::zeros::{known_zero, or_else, surer_zero};
+use crate::zeros::{known_zero, surer_zero};
 use keys::{Key, Relation};
 use questions::NullEquality;
 use stats::{ColumnStatistics, Precision};
@@ -18,6 +18,7 @@ fn zero_if_low_past_high<K: Key>(
     ensures { result ≡ low_past_high K.relation column.now other.now }
 {
     let ends = column.min_value.zip(other.max_value);
+    // Not by then_some: the proof did not close.
     ends.filter_map(|(low, high)| match low.compare(high) {
         Relation::After => Some(0),
         _ => None,
@@ -28,9 +29,8 @@ fn zero_if_low_past_high<K: Key>(
 fn zero_if_ranges_apart<K: Key>(columns: &KeyColumns<K>) -> Precision<u64>
     ensures { result ≡ ranges_apart K.relation columns.now }
 {
-    or_else(zero_if_low_past_high(&columns.this, &columns.other), || {
-        zero_if_low_past_high(&columns.other, &columns.this)
-    })
+    let after = zero_if_low_past_high(&columns.this, &columns.other);
+    after.or_else(|| zero_if_low_past_high(&columns.other, &columns.this))
 }
 
 /// 0 where no null of the two columns matches another.

@@ -8,7 +8,7 @@ ghost use Rattle.estimators.specs.Widest.{max_present, pair_width, widest, match
 
 use crate::answerable::Answerable;
 use crate::pairs::{KeyColumns, Side};
-use crate::zeros::{known_zero, or_else, surer_zero};
+use crate::zeros::{known_zero, surer_zero};
 use keys::Key;
 use questions::JoinSide;
 use stats::{Precision, max_distinct_count};
@@ -17,11 +17,7 @@ use stats::{Precision, max_distinct_count};
 fn max_of_present(a: Precision<u64>, b: Precision<u64>) -> Precision<u64>
     ensures { result ≡ max_present a b }
 {
-    match (a, b) {
-        (Precision::Absent, _) => b,
-        (_, Precision::Absent) => a,
-        _ => a.max(b),
-    }
+    a.max(b).or_else(|| a).or_else(|| b)
 }
 
 impl<'q, K: Key> Side<'q, K> {
@@ -66,9 +62,9 @@ impl<'q, K: Key> Answerable<'q, K> {
             question: self.question,
             side: JoinSide::Left,
         };
-        or_else(left.estimate_disjoint_inputs(), || {
+        left.estimate_disjoint_inputs().or_else(|| {
             let empty = surer_zero(known_zero(left.rows()), known_zero(left.other_rows()));
-            or_else(empty, || self.matching_rows(left.widest_key()))
+            empty.or_else(|| self.matching_rows(left.widest_key()))
         })
     }
 }

@@ -164,7 +164,7 @@ impl<K: Key, A: Estimator<K>, B: Estimator<K>> Estimator<K> for Chain<A, B> {
     ghost mirrors = { Prim.search rules };
 
     fn estimate(&self, question: &JoinQuestion<'_, '_, '_, K>) -> Option<Figure> {
-        // Not by or_else: the proof didn't close, since it learns no result of a closure over a borrow.
+        // Not by or_else: the proof didn't close, since it learns no result of an FnOnce over a borrow.
         match self.first.estimate(question) {
             Some(figure) => Some(figure),
             None => self.second.estimate(question),

@@ -26,6 +26,8 @@ fn column_at<K: Key>(columns: &[ColumnStatistics<K>], index: usize) -> ColumnSta
 }
 
 /// A question, seen from one side of its join.
+// Made by a literal: through a method, the search did not rewrite the side in
+// the cases, and goals of its callers stayed open.
 #[derive(Drop)]
 pub(crate) struct Side<'q, K> {
     pub(crate) question: &'q JoinQuestion<'q, 'q, 'q, K>,
@@ -48,6 +50,7 @@ impl<'q, K: Key> Side<'q, K> {
     }
 
     /// The columns of a pair; both are unknown if one key is an expression.
+    // Callers map the pairs themselves: Rattle has no `impl Iterator` as a result.
     pub(crate) fn columns_of(&self, pair: KeyPair) -> KeyColumns<K>
         ensures { result ≡ columns_from self.now.side (asked self.now.question.now) pair }
     {

@@ -2,12 +2,13 @@
 ghost use Rattle.std.specs.Prelude.{◌≡◌};
 ghost use Rattle.questions.specs.Questions.{asked};
 ghost use Rattle.estimators.specs.KeyColumns.{keys_from};
-ghost use Rattle.estimators.specs.Product.{larger_distinct, stopping_product, divisor, joined_by, product_by, Positive};
+ghost use Rattle.estimators.specs.Product.{larger_distinct, divisor, joined_by, product_by, Positive};
 
 use crate::answerable::TableRows;
 use crate::pairs::Side;
 use keys::Key;
 use questions::{Figure, JoinType};
+use stats::stopping_product;
 
 /// The larger of two distinct counts, if both are known and above 0.
 fn larger_of(left: Option<u64>, right: Option<u64>) -> Option<u64>
@@ -17,13 +18,6 @@ fn larger_of(left: Option<u64>, right: Option<u64>) -> Option<u64>
         (0, _) | (_, 0) => None,
         (l, r) => Some(l.max(r)),
     }
-}
-
-/// The product, which stops at the greatest number; none if one is missing.
-fn product_with(so_far: Option<u64>, count: Option<u64>) -> Option<u64>
-    ensures { result ≡ stopping_product so_far count }
-{
-    Some(so_far?.saturating_mul(count?))
 }
 
 impl<'q, K: Key> Side<'q, K> {
@@ -40,7 +34,7 @@ impl<'q, K: Key> Side<'q, K> {
                     columns.this.distinct_count.get_value(),
                     columns.other.distinct_count.get_value(),
                 );
-                product_with(so_far, count)
+                stopping_product(so_far, count)
             })
     }
 }
@@ -51,10 +45,7 @@ impl TableRows {
         requires { Positive divisor }
         ensures { result ≡ joined_by self.left self.right divisor }
     {
-        match divisor {
-            Some(product) => self.pairs() / product,
-            None => self.pairs(),
-        }
+        self.pairs() / divisor.unwrap_or(1)
     }
 
     /// The rows of a join of a type, from those of the inner join.

@@ -47,10 +47,7 @@ fn factor_by(nulls: f64, distinct: Option<u64>, other_distinct: Option<u64>) -> 
 fn product_of(so_far: Option<f64>, factor: Option<f64>) -> Option<f64>
     ensures { result ≡ times so_far factor }
 {
-    match factor {
-        Some(f) => Some(so_far.unwrap_or(1.0) * f),
-        None => so_far,
-    }
+    factor.map_or(so_far, |f| Some(so_far.unwrap_or(1.0) * f))
 }
 
 impl<'q, K: Key> Side<'q, K> {

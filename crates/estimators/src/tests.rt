@@ -52,26 +52,24 @@ fn asked<E: Estimator<Whole>>(
 fn all_types_have_their_figure(rt: HostRuntime) {
     let left = counts(Precision::Exact(250), Precision::Exact(100));
     let right = counts(Precision::Exact(0), Precision::Exact(50));
-    let widest = [4000, 4000, 4000, 4000, 375, 400, 625, 0];
-    let product = [4000, 4000, 4000, 4000, 1000, 400, 0, 0];
-    let types = [
-        JoinType::Inner,
-        JoinType::Full,
-        JoinType::Left,
-        JoinType::Right,
-        JoinType::LeftSemi,
-        JoinType::RightSemi,
-        JoinType::LeftAnti,
-        JoinType::RightAnti,
+    let figures = [
+        (JoinType::Inner, 4000, 4000),
+        (JoinType::Full, 4000, 4000),
+        (JoinType::Left, 4000, 4000),
+        (JoinType::Right, 4000, 4000),
+        (JoinType::LeftSemi, 375, 1000),
+        (JoinType::RightSemi, 400, 400),
+        (JoinType::LeftAnti, 625, 0),
+        (JoinType::RightAnti, 0, 0),
     ];
-    for ((join_type, w), p) in types.iter().zip(widest.iter()).zip(product.iter()) {
+    for (join_type, widest, product) in figures {
         assert_eq!(rt;
-            asked(&Widest, *join_type, &[PAIR], left, right),
-            Some(Figure::Inexact(*w))
+            asked(&Widest, join_type, &[PAIR], left, right),
+            Some(Figure::Inexact(widest))
         );
         assert_eq!(rt;
-            asked(&Product, *join_type, &[PAIR], left, right),
-            Some(Figure::Inexact(*p))
+            asked(&Product, join_type, &[PAIR], left, right),
+            Some(Figure::Inexact(product))
         );
     }
     assert_eq!(rt;

@@ -1,7 +1,5 @@
 //! Counts that are known to be 0.
-ghost use Rattle.std.specs.Prelude.{◌≡◌, is_some, IsTrue};
-ghost use Rattle.stats.specs.declared.exactness.Precision.TheVariants.{Absent};
-ghost use Rattle.stats.specs.Precisions.{known};
+ghost use Rattle.std.specs.Prelude.{◌≡◌};
 ghost use Rattle.estimators.specs.Zeros.{zero_of, either_zero};
 
 use stats::Precision;
@@ -10,6 +8,7 @@ use stats::Precision;
 pub(crate) fn known_zero(count: Precision<u64>) -> Precision<u64>
     ensures { result ≡ zero_of count }
 {
+    // Not by then_some: the proof did not close.
     count.filter_map(|count| if count == 0 { Some(0) } else { None })
 }
 
@@ -21,17 +20,5 @@ pub(crate) fn surer_zero(a: Precision<u64>, b: Precision<u64>) -> Precision<u64>
         (Precision::Exact(_), _) | (_, Precision::Exact(_)) => Precision::Exact(0),
         (Precision::Inexact(_), _) | (_, Precision::Inexact(_)) => Precision::Inexact(0),
         (Precision::Absent, Precision::Absent) => Precision::Absent,
-    }
-}
-
-/// A count that is present, or else what `next` gives.
-pub(crate) fn or_else<F: Fn() -> Precision<u64>>(count: Precision<u64>, next: F) -> Precision<u64>
-    requires { F.IsAlwaysCallable next }
-    ensures present { IsTrue (is_some (known count)) → result ≡ count }
-    ensures absent { count ≡ Absent → F.post next result }
-{
-    match count {
-        Precision::Absent => next(),
-        present => present,
     }
 }

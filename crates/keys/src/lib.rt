@@ -17,8 +17,8 @@ pub use kinds::{Mixed, Whole};
 pub use texts::ShortText;
 
 /// How a value stands to another.
-// No `Option<Ordering>`: that would call two families `None`, and a derive on
-// `Mixed` would order them.
+// No `Option<Ordering>`, though `partial_cmp` says None of other families: the
+// laws of a kind are stated over these four, and a derive would order families.
 #[derive(Clone, Copy, PartialEq, Eq, Debug)]
 pub enum Relation {
     Before,

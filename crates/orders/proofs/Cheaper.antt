@@ -1,9 +1,9 @@
 -- The cheapest of the costs so far. Assumes nothing.
-use Rattle.std.proofs.Common.{◌≡◌, ℕ, ◌+◌, ◌<◌, true, false, List, length, get_or, Some, None, Option, refl, arith, below_more}
+use Rattle.std.proofs.Common.{◌≡◌, ℕ, ◌+◌, ◌<◌, true, false, List, length, get_or, Some, None, Option, refl, sym, ◌∙◌, cond, Bool, MatchOption, IsTrue, arith, below_more}
 use Rattle.std.proofs.lemmas.Bool.{le-ltb}
 use Rattle.std.proofs.lemmas.List.{get_or_default}
 use Rattle.stats.specs.declared.exactness.Precision.{Precision}
-use Rattle.stats.specs.declared.exactness.Precision.TheVariants.{Absent}
+use Rattle.stats.specs.declared.exactness.Precision.TheVariants.{Exact, Absent}
 use Rattle.stats.specs.Precisions.{known}
 use Rattle.orders.specs.Choice.{cheaper_by, cheaper}
 
@@ -65,5 +65,12 @@ module _ (costs : List (Precision ℕ)) (i : ℕ) where
     }
 
 -- values that were read
-pub read_cheaper : (costs : List (Precision ℕ)) (i b : ℕ) (d : Precision ℕ) → i < length costs → b < length costs → cheaper (get_or costs i Absent) (get_or costs b Absent) ≡ cheaper (get_or costs i d) (get_or costs b d)
+read_cheaper : (costs : List (Precision ℕ)) (i b : ℕ) (d : Precision ℕ) → i < length costs → b < length costs → cheaper (get_or costs i Absent) (get_or costs b Absent) ≡ cheaper (get_or costs i d) (get_or costs b d)
 read_cheaper costs i b d h k = λ j. cheaper (get_or_default costs i Absent d h j) (get_or_default costs b Absent d k j)
+
+-- the new one is the best where there was none, or it is cheaper
+pub next_best : (costs : List (Precision ℕ)) (i : ℕ) (best : Option ℕ) (taken : Bool) {Q : ℕ → Type 0} → i < length costs → BestOf costs i best → MatchOption best (IsTrue taken) Q → ((b : ℕ) → Q b → taken ≡ cheaper (get_or costs i (Exact 0)) (get_or costs b (Exact 0))) → BestOf costs (i + 1) (cond taken (Some i) best)
+next_best costs i None true l old h says = best_at_0 costs i old
+next_best costs i None false l old h says = cc
+next_best costs i (Some b) true l old h says = best_new costs i b old (read_cheaper costs i b (Exact 0) l (let k = old.among in omega arith) ∙ sym (says b h))
+next_best costs i (Some b) false l old h says = best_stays costs i b old (read_cheaper costs i b (Exact 0) l (let k = old.among in omega arith) ∙ sym (says b h))

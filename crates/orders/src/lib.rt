@@ -16,10 +16,10 @@ use std::fmt;
 /// a member, a member lives in a flat, a flat has a lift.
 #[derive(Clone, Copy, PartialEq, Eq, Debug)]
 pub enum Table {
-    Payments,
-    Members,
-    Flats,
-    Lifts,
+    Payments = 1,
+    Members = 2,
+    Flats = 3,
+    Lifts = 4,
 }
 
 impl Table {
@@ -27,12 +27,7 @@ impl Table {
     pub fn number(self) -> usize
         ensures { result ≡ number self }
     {
-        match self {
-            Table::Payments => 1,
-            Table::Members => 2,
-            Table::Flats => 3,
-            Table::Lifts => 4,
-        }
+        self as usize
     }
 
     /// How many columns it has.
@@ -68,6 +63,7 @@ pub fn orders() -> [Order; 8]
 {
     let (payments, members) = (Table::Payments, Table::Members);
     let (flats, lifts) = (Table::Flats, Table::Lifts);
+    // A literal of the struct in each place would take three lines for an order's one.
     let in_order = |tables: [Table; 4]| Order { tables };
     [
         in_order([payments, members, flats, lifts]),
@@ -81,63 +77,64 @@ pub fn orders() -> [Order; 8]
     ]
 }
 
-/// The columns before those of a table, where the tables are joined in an order.
-fn offset_of(order: &Order, table: Table) -> usize
-    ensures columns { result ≡ offset (tables order.now) table }
-    ensures few { result ≤ 8 }
-{
-    order
-        .tables
-        .iter()
-        .take_while(|before| **before != table)
-        .map(|before| before.width())
-        .sum()
-}
-
-/// The pair that holds a table's key equal to that of the next table, in tables
-/// that are joined in an order, the next one before it.
-fn pair_with_next(order: &Order, table: Table, next: Table) -> KeyPair
-    ensures { result ≡ pair_with_next (tables order.now) table next }
-{
-    KeyPair {
-        left: KeySide::Column(offset_of(order, next)),
-        right: KeySide::Column(table.to_next()),
+impl Order {
+    /// The columns before those of a table, where the tables are joined in this order.
+    fn offset_of(&self, table: Table) -> usize
+        ensures columns { result ≡ offset (tables self.now) table }
+        ensures few { result ≤ 8 }
+    {
+        self.tables
+            .iter()
+            .take_while(|before| **before != table)
+            .map(|before| before.width())
+            .sum()
     }
-}
 
-/// The same with the table before.
-// One function for both would take each table's column besides, and be no plainer.
-fn pair_with_last(order: &Order, last: Table) -> KeyPair
-    ensures { result ≡ pair_with_last (tables order.now) last }
-{
-    KeyPair {
-        left: KeySide::Column(offset_of(order, last) + last.to_next()),
-        right: KeySide::Column(0),
+    /// The pair that holds a table's key equal to that of the next table, in tables
+    /// that are joined in this order, the next one before it.
+    fn pair_with_next(&self, table: Table, next: Table) -> KeyPair
+        ensures { result ≡ pair_with_next (tables self.now) table next }
+    {
+        KeyPair {
+            left: KeySide::Column(self.offset_of(next)),
+            right: KeySide::Column(table.to_next()),
+        }
     }
-}
 
-/// Whether a table comes before another in an order.
-fn is_before(order: &Order, a: Table, b: Table) -> bool
-    ensures { result ≡ nat_lt (offset (tables order.now) a) (offset (tables order.now) b) }
-{
-    offset_of(order, a) < offset_of(order, b)
-}
+    /// The same with the table before.
+    // One function for both would take each table's column besides, and be no plainer.
+    fn pair_with_last(&self, last: Table) -> KeyPair
+        ensures { result ≡ pair_with_last (tables self.now) last }
+    {
+        KeyPair {
+            left: KeySide::Column(self.offset_of(last) + last.to_next()),
+            right: KeySide::Column(0),
+        }
+    }
 
-/// The pair by which a table is joined to those before it in an order.
-pub fn pair_to(order: &Order, table: Table) -> KeyPair
-    ensures { result ≡ pair_to (tables order.now) table }
-{
-    match table {
-        Table::Payments => pair_with_next(order, table, Table::Members),
-        Table::Members if is_before(order, Table::Flats, table) => {
-            pair_with_next(order, table, Table::Flats)
+    /// Whether a table comes before another in this order.
+    fn is_before(&self, a: Table, b: Table) -> bool
+        ensures { result ≡ nat_lt (offset (tables self.now) a) (offset (tables self.now) b) }
+    {
+        self.offset_of(a) < self.offset_of(b)
+    }
+
+    /// The pair by which a table is joined to those before it in this order.
+    pub fn pair_to(&self, table: Table) -> KeyPair
+        ensures { result ≡ pair_to (tables self.now) table }
+    {
+        match table {
+            Table::Payments => self.pair_with_next(table, Table::Members),
+            Table::Members if self.is_before(Table::Flats, table) => {
+                self.pair_with_next(table, Table::Flats)
+            }
+            Table::Members => self.pair_with_last(Table::Payments),
+            Table::Flats if self.is_before(Table::Lifts, table) => {
+                self.pair_with_next(table, Table::Lifts)
+            }
+            Table::Flats => self.pair_with_last(Table::Members),
+            Table::Lifts => self.pair_with_last(Table::Flats),
         }
-        Table::Members => pair_with_last(order, Table::Payments),
-        Table::Flats if is_before(order, Table::Lifts, table) => {
-            pair_with_next(order, table, Table::Lifts)
-        }
-        Table::Flats => pair_with_last(order, Table::Members),
-        Table::Lifts => pair_with_last(order, Table::Flats),
     }
 }
 
@@ -145,11 +142,8 @@ pub fn pair_to(order: &Order, table: Table) -> KeyPair
 fn is_cheaper(a: Precision<u64>, b: Precision<u64>) -> bool
     ensures { result ≡ cheaper a b }
 {
-    match (a.get_value(), b.get_value()) {
-        (Some(a), Some(b)) => a < b,
-        (Some(_), None) => true,
-        (None, _) => false,
-    }
+    a.get_value()
+        .is_some_and(|a| b.get_value().is_none_or(|b| a < b))
 }
 
 /// The place of the cheapest, the first of several.
@@ -159,9 +153,8 @@ pub fn choose(costs: &[Precision<u64>]) -> Option<usize>
 {
     let mut best = None;
     for (i, cost) in costs.iter().enumerate() {
-        match best {
-            Some(b) if !is_cheaper(*cost, costs[b]) => {}
-            _ => best = Some(i),
+        if best.is_none_or(|b| is_cheaper(*cost, costs[b])) {
+            best = Some(i);
         }
     }
     best

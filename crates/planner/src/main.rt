@@ -48,13 +48,14 @@ fn known_payers(
     ColumnStatistics {
         null_count: nulls,
         distinct_count: distincts,
-        byte_size: Precision::Absent,
         min_value: Precision::Exact(Whole(low)),
         max_value: Precision::Exact(Whole(high)),
+        ..ColumnStatistics::unknown()
     }
 }
 
 /// A label, and counts below the heads of their columns.
+// The statement has the same loop: they are two programs, and no crate below prints.
 fn print_line(rt: &HostRuntime, label: &str, counts: &[Precision<u64>]) -> io::Result<()> {
     print!(rt; "{label:<24}")?;
     for count in counts {

@@ -1,5 +1,5 @@
 -- Join types by number and mirror; key pairs exchanged. Assumes nothing.
-use Rattle.std.specs.Prelude.{ℕ, Bool, true, ◌&&◌, nat_lt}
+use Rattle.std.specs.Prelude.{ℕ, Bool, true, ◌&&◌, Some, None, Option, nat_lt}
 use Rattle.questions.specs.declared.types.JoinType.{JoinType}
 use Rattle.questions.specs.declared.types.JoinType.TheVariants.{Inner, Full, Left, Right, LeftSemi, RightSemi, LeftAnti, RightAnti, LeftMark, RightMark}
 use Rattle.questions.specs.declared.types.JoinSide.{JoinSide}
@@ -48,6 +48,11 @@ opposite side.Right = side.Left
 
 abbrev pub exchanged : KeyPair → KeyPair
 exchanged p = record { left = p.right; right = p.left }
+
+-- the column that a key is, if it is one
+abbrev pub key_column : KeySide → Option ℕ
+key_column (key.Column i) = Some i
+key_column key.Expression = None
 
 -- a key that is a column of a table so wide, or an expression
 abbrev pub key_inside : ℕ → KeySide → Bool

@@ -5,6 +5,7 @@ ghost use Rattle.questions.specs.Figures.{figure_of, rows_of, amount};
 use stats::Precision;
 
 /// A number of rows, exact or an estimate.
+// No `Precision<u64>`: that may be Absent, and who has no figure answers None.
 #[derive(Clone, Copy, PartialEq, Eq, Debug)]
 pub enum Figure {
     Exact(u64),

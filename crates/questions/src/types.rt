@@ -3,7 +3,7 @@ ghost use Rattle.std.specs.Prelude.{◌≡◌, Some};
 ghost use Rattle.std.specs.Fmt.{padded};
 ghost use Rattle.std.specs.List.{list_all};
 ghost use Rattle.questions.specs.Names.{join_name};
-ghost use Rattle.questions.specs.Types.{type_number, mirror, opposite, exchanged, key_inside, pair_inside};
+ghost use Rattle.questions.specs.Types.{type_number, mirror, opposite, exchanged, key_column, key_inside, pair_inside};
 
 use std::fmt;
 
@@ -89,6 +89,16 @@ pub enum KeySide {
 }
 
 impl KeySide {
+    /// The index of the column, unless the key is an expression.
+    pub fn column(self) -> Option<usize>
+        ensures { result ≡ key_column self }
+    {
+        match self {
+            KeySide::Column(index) => Some(index),
+            KeySide::Expression => None,
+        }
+    }
+
     /// Whether the key is a column of a table so wide, or an expression.
     pub fn is_inside(self, width: usize) -> bool
         ensures { result ≡ key_inside width self }

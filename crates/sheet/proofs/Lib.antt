@@ -12,7 +12,6 @@ pub mod PartLoops
 pub mod PartMade
 pub mod JoinCarried
 pub mod UnionCarried
-pub mod GroupLoops
 pub mod GroupCarried
 pub mod LeastNumber
 pub mod Promises

@@ -8,6 +8,7 @@ use Rattle.stats.specs.Precisions.{inexact, known, both, total, capped, or_zero}
 use Rattle.stats.specs.Columns.{unknown_column, column_inexact}
 use Rattle.stats.specs.Scaling.{scaled}
 use Rattle.stats.specs.Bytes.{rescaled_bytes}
+use Rattle.stats.specs.Products.{stopping_product}
 use Rattle.questions.specs.declared.types.JoinType.{JoinType}
 use Rattle.questions.specs.declared.types.JoinType.TheVariants as type
 use Rattle.questions.specs.declared.types.JoinSide.{JoinSide}
@@ -225,9 +226,7 @@ key_groups columns Expression = None
 
 -- a product that stops at 2 ^ 64 - 1
 abbrev pub groups_times : Option ℕ → Option ℕ → Option ℕ
-groups_times (Some p) (Some d) = Some (min (p * d) (2 ^ 64 - 1))
-groups_times (Some p) None = None
-groups_times None d = None
+groups_times p d = stopping_product p d
 
 abbrev pub some_keys : List KeySide → Bool
 some_keys [] = false

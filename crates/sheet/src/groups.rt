@@ -19,7 +19,7 @@ use crate::views::{View, block_of};
 use crate::{AggregateMode, Head, Node, Operator, Refusal};
 use keys::Key;
 use questions::{KeySide, MAX_PAIRS};
-use stats::{ColumnStatistics, Precision, rescale_byte_size};
+use stats::{ColumnStatistics, Precision, rescale_byte_size, stopping_product};
 
 /// A grouping of a node's rows by keys, in so many sets, with so many columns
 /// more.
@@ -56,10 +56,7 @@ fn are_keys_inside(width: usize, by: &[KeySide]) -> bool
 fn groups_of<K: Key>(columns: &[ColumnStatistics<K>], key: KeySide) -> Option<u64>
     ensures { result ≡ key_groups columns.now key }
 {
-    let KeySide::Column(index) = key else {
-        return None;
-    };
-    let count = columns.get(index)?.distinct_count.get_value();
+    let count = columns.get(key.column()?)?.distinct_count.get_value();
     count.filter(|count| *count > 0)
 }
 
@@ -68,11 +65,9 @@ fn groups_of<K: Key>(columns: &[ColumnStatistics<K>], key: KeySide) -> Option<u6
 fn product_of<K: Key>(columns: &[ColumnStatistics<K>], by: &[KeySide]) -> Option<u64>
     ensures { result ≡ fold (λ p k. groups_times p (key_groups columns.now k)) (Some 1) by.now }
 {
-    let mut product: u64 = 1;
-    for key in by {
-        product = product.saturating_mul(groups_of(columns, *key)?);
-    }
-    Some(product)
+    by.iter().fold(Some(1), |product, key| {
+        stopping_product(product, groups_of(columns, *key))
+    })
 }
 
 /// The number of groups, if it is known.
@@ -111,11 +106,8 @@ fn group_size(groups: Option<u64>, from: &Node) -> (Precision<u64>, Precision<u6
 fn key_column<K: Key>(columns: &[ColumnStatistics<K>], key: KeySide) -> ColumnStatistics<K>
     ensures { result ≡ key_column columns.now key }
 {
-    let KeySide::Column(index) = key else {
-        return ColumnStatistics::unknown();
-    };
-    columns
-        .get(index)
+    key.column()
+        .and_then(|index| columns.get(index))
         .map_or(ColumnStatistics::unknown(), |column| column.to_inexact())
 }
 

@@ -26,10 +26,8 @@ fn fetch_of(fetch: Option<u64>, rows: u64) -> u64
 fn limited_rows(skip: u64, fetch: Option<u64>, rows: Precision<u64>) -> Precision<u64>
     ensures { result ≡ limit_rows skip fetch rows }
 {
-    match rows {
-        Precision::Absent => fetch.map_or(Precision::Absent, Precision::Inexact),
-        known => known.map(|n| fetch_of(fetch, n.saturating_sub(skip))),
-    }
+    rows.map(|n| fetch_of(fetch, n.saturating_sub(skip)))
+        .or_else(|| fetch.map_or(Precision::Absent, Precision::Inexact))
 }
 
 impl<'a, K: Key> View<'a, K> {

@@ -19,8 +19,7 @@ pub(crate) fn counts(
         null_count: nulls,
         distinct_count: distincts,
         byte_size: bytes,
-        min_value: Precision::Absent,
-        max_value: Precision::Absent,
+        ..ColumnStatistics::unknown()
     }
 }
 

@@ -400,28 +400,29 @@ fn the_smallest_of_several_causes_is_given(rt: HostRuntime) {
     );
 }
 
-/// The number of a refusal, and 0 where there is none.
-fn number_of<T: Drop>(answer: Result<T, Refusal>) -> u8 {
-    match answer {
-        Ok(_) => 0,
-        Err(refusal) => refusal.number(),
-    }
-}
+/// Node memory.
+const NODES: Option<u8> = Some(1);
 
-/// What a sheet answers to a lay, to every other call on node 1, and to a read
-/// of node 1; each call has a copy of its own.
-fn answers(desk: &Desk) -> [u8; 8] {
+const CHILD: Option<u8> = Some(2);
+
+/// Column memory, where the blocks of columns lie.
+const BLOCK: Option<u8> = Some(6);
+
+/// By which number a sheet refuses a lay, every other call on node 1, and a read of
+/// node 1, if it does; each call has a copy of its own.
+fn answers(desk: &Desk) -> [Option<u8>; 8] {
     let mut copies = [*desk; 7];
     [
-        number_of(copies[0].lay(NONE, NONE, &[MEMBER])),
-        number_of(copies[1].join(&Widest, JoinType::Full, 1, 1, &[PAIR])),
-        number_of(copies[2].cross(1, 1)),
-        number_of(copies[3].limit(1, 1, Some(u64::MAX))),
-        number_of(copies[4].union(&[1, 1])),
-        number_of(copies[5].group(1, &[KeySide::Column(0)], 1)),
-        number_of(copies[6].cut(1)),
-        number_of(desk.head.read(&desk.nodes, &desk.columns, 1)),
+        copies[0].lay(NONE, NONE, &[MEMBER]).err(),
+        copies[1].join(&Widest, JoinType::Full, 1, 1, &[PAIR]).err(),
+        copies[2].cross(1, 1).err(),
+        copies[3].limit(1, 1, Some(u64::MAX)).err(),
+        copies[4].union(&[1, 1]).err(),
+        copies[5].group(1, &[KeySide::Column(0)], 1).err(),
+        copies[6].cut(1).err(),
+        desk.head.read(&desk.nodes, &desk.columns, 1).err(),
     ]
+    .map(|refused| refused.map(Refusal::number))
 }
 
 #[test]
@@ -444,7 +445,10 @@ fn junk_in_memory_gets_an_answer(rt: HostRuntime) {
         nodes: [huge; 8],
         columns: [unlawful; 40],
     };
-    assert_eq!(rt; answers(&desk), [0, 2, 2, 2, 2, 2, 6, 2]);
+    assert_eq!(rt;
+        answers(&desk),
+        [None, CHILD, CHILD, CHILD, CHILD, CHILD, BLOCK, CHILD]
+    );
     // a block outside the used part, then one of unlawful columns inside it
     desk.nodes[0] = Node {
         rows: Precision::Exact(5),
@@ -452,14 +456,26 @@ fn junk_in_memory_gets_an_answer(rt: HostRuntime) {
         width: 2,
         ..NO_NODE
     };
-    assert_eq!(rt; answers(&desk), [0, 6, 6, 6, 6, 6, 6, 6]);
+    assert_eq!(rt;
+        answers(&desk),
+        [None, BLOCK, BLOCK, BLOCK, BLOCK, BLOCK, BLOCK, BLOCK]
+    );
     desk.nodes[0].place = 28;
-    assert_eq!(rt; answers(&desk), [0, 2, 2, 2, 2, 2, 0, 2]);
+    assert_eq!(rt;
+        answers(&desk),
+        [None, CHILD, CHILD, CHILD, CHILD, CHILD, None, CHILD]
+    );
     desk.nodes[0].place = 29;
-    assert_eq!(rt; answers(&desk), [0, 6, 6, 6, 6, 6, 6, 6]);
+    assert_eq!(rt;
+        answers(&desk),
+        [None, BLOCK, BLOCK, BLOCK, BLOCK, BLOCK, BLOCK, BLOCK]
+    );
     // a blank sheet is laid over all of it
     desk.head = BLANK;
-    assert_eq!(rt; answers(&desk), [0, 2, 2, 2, 2, 2, 2, 2]);
+    assert_eq!(rt;
+        answers(&desk),
+        [None, CHILD, CHILD, CHILD, CHILD, CHILD, CHILD, CHILD]
+    );
     assert_eq!(rt; desk.cut(0), Ok(0));
 }
 
@@ -467,18 +483,21 @@ fn junk_in_memory_gets_an_answer(rt: HostRuntime) {
 fn a_head_that_claims_too_much_is_refused(rt: HostRuntime) {
     let mut desk = payments_and_members(&rt);
     desk.head.count = 9;
-    assert_eq!(rt; answers(&desk), [1; 8]);
+    assert_eq!(rt; answers(&desk), [NODES; 8]);
     desk.head.count = usize::MAX;
-    assert_eq!(rt; answers(&desk), [1; 8]);
+    assert_eq!(rt; answers(&desk), [NODES; 8]);
     assert_eq!(rt; desk.cut(0), Err(Refusal::NodeMemory));
     // all nodes stand: only a cut and a read go on
     desk.head.count = 8;
-    assert_eq!(rt; answers(&desk), [1, 1, 1, 1, 1, 1, 0, 0]);
+    assert_eq!(rt;
+        answers(&desk),
+        [NODES, NODES, NODES, NODES, NODES, NODES, None, None]
+    );
     desk.head = Head { count: 2, used: 41 };
-    assert_eq!(rt; answers(&desk), [6; 8]);
+    assert_eq!(rt; answers(&desk), [BLOCK; 8]);
     assert_eq!(rt; desk.cut(0), Err(Refusal::ColumnMemory));
     desk.head.used = usize::MAX;
-    assert_eq!(rt; answers(&desk), [6; 8]);
+    assert_eq!(rt; answers(&desk), [BLOCK; 8]);
 }
 
 #[test]
@@ -733,7 +752,10 @@ fn a_number_that_does_not_stand_is_not_read(rt: HostRuntime) {
     let blank = Desk::blank();
     assert!(rt; desk.head.read(&desk.nodes, &desk.columns, 2).is_ok());
     for n in [0, 3, 8, 9, usize::MAX] {
-        assert_eq!(rt; number_of(desk.head.read(&desk.nodes, &desk.columns, n)), 2);
+        assert_eq!(rt;
+            desk.head.read(&desk.nodes, &desk.columns, n).err(),
+            Some(Refusal::Child)
+        );
     }
     assert_eq!(rt;
         blank.head.read(&blank.nodes, &blank.columns, 1).err(),

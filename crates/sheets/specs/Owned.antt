@@ -1,7 +1,13 @@
--- What an owned sheet holds. Assumes nothing.
-use Rattle.std.specs.Prelude.{◌≡◌, ℕ, length, vec_items}
+-- What an owned sheet holds, and what its calls do. Assumes nothing.
+use Rattle.std.specs.Prelude.{◌≡◌, ℕ, Option, Result, length, vec_items}
+use Rattle.keys.specs.declared.Relation.{Relation}
+use Rattle.questions.specs.declared.figures.Figure.{Figure}
+use Rattle.questions.specs.Questions.{Question}
+use Rattle.sheet.specs.declared.refusals.Refusal.{Refusal}
 use Rattle.sheet.specs.Sheets as lent
+use Rattle.sheet.specs.Calls.{Call}
 use Rattle.sheet.specs.Laws.{Blank}
+use Rattle.sheet.specs.Outcomes.{Outcome, Keeps}
 use Rattle.sheets.specs.declared.Sheet.{Sheet}
 
 module _ {K E A : Type 0} where
@@ -15,3 +21,10 @@ module _ {K E A : Type 0} where
     pub node_memory : length (held s).nodes ≡ nodes
     pub column_memory : length (held s).columns ≡ columns
     pub asks : s.estimator ≡ estimator
+
+  -- a call on a sheet, its answer, and the sheet after it: as on the memory that it
+  -- lends, above its estimator, which stays
+  pub record Called (relation : K → K → Relation) (figure : E → Question K → Option Figure) (call : Call K) (s : Sheet K E A) (answer : Result ℕ Refusal) (t : Sheet K E A) : Type 0 where
+    pub outcome : Outcome relation (figure s.estimator) call (held s) answer (held t)
+    pub keeps : Keeps relation (figure s.estimator) (held s) (held t)
+    pub estimator : t.estimator ≡ s.estimator

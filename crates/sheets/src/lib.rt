@@ -4,9 +4,9 @@
 ghost use Rattle.std.specs.Prelude.{◌≡◌, IfOk};
 ghost use Rattle.sheet.specs.Calls.{lay, join_of, cross, limit, union, group_of, order, cut};
 ghost use Rattle.sheet.specs.Least.{read_clear, Least};
-ghost use Rattle.sheet.specs.Outcomes.{Outcome, Keeps};
+ghost use Rattle.sheet.specs.Outcomes.{Keeps};
 ghost use Rattle.sheet.specs.Reads.{read_answer, shown};
-ghost use Rattle.sheets.specs.Owned.{held, Fresh};
+ghost use Rattle.sheets.specs.Owned.{held, Fresh, Called};
 
 use keys::Key;
 use questions::Estimator;
@@ -34,14 +34,10 @@ impl<K: Key, E: Estimator<K> + Copy, A: Allocator + Copy> Sheet<K, E, A> {
     ) -> Result<Sheet<K, E, A>, AllocError>
         ensures { IfOk result (λ s. Fresh nodes columns estimator s) }
     {
-        let mut node_memory = Vec::new(heap);
-        node_memory.resize(nodes, NO_NODE)?;
-        let mut column_memory = Vec::new(heap);
-        column_memory.resize(columns, ColumnStatistics::unknown())?;
         Ok(Sheet {
             head: BLANK,
-            nodes: node_memory,
-            columns: column_memory,
+            nodes: vec![in heap; NO_NODE; nodes]?,
+            columns: vec![in heap; ColumnStatistics::unknown(); columns]?,
             estimator,
         })
     }
@@ -53,9 +49,7 @@ impl<K: Key, E: Estimator<K> + Copy, A: Allocator + Copy> Sheet<K, E, A> {
         bytes: Precision<u64>,
         laid: &[ColumnStatistics<K>],
     ) -> Result<usize, Refusal>
-        ensures outcome { Outcome K.relation (E.Estimator.figure self.old.estimator) (order (lay rows bytes laid.now)) (held self.old) result (held self.new) }
-        ensures keeps { Keeps K.relation (E.Estimator.figure self.old.estimator) (held self.old) (held self.new) }
-        ensures estimator { self.new.estimator ≡ self.old.estimator }
+        ensures { Called K.relation E.Estimator.figure (order (lay rows bytes laid.now)) self.old result self.new }
     {
         self.head
             .lay(&mut self.nodes, &mut self.columns, rows, bytes, laid)
@@ -63,9 +57,7 @@ impl<K: Key, E: Estimator<K> + Copy, A: Allocator + Copy> Sheet<K, E, A> {
 
     /// Joins two nodes by keys. Types 0 to 7 ask the estimator.
     pub fn join(&mut self, join: &Join<'_>) -> Result<usize, Refusal>
-        ensures outcome { Outcome K.relation (E.Estimator.figure self.old.estimator) (order (join_of join.now)) (held self.old) result (held self.new) }
-        ensures keeps { Keeps K.relation (E.Estimator.figure self.old.estimator) (held self.old) (held self.new) }
-        ensures estimator { self.new.estimator ≡ self.old.estimator }
+        ensures { Called K.relation E.Estimator.figure (order (join_of join.now)) self.old result self.new }
     {
         self.head
             .join(&mut self.nodes, &mut self.columns, &self.estimator, join)
@@ -73,9 +65,7 @@ impl<K: Key, E: Estimator<K> + Copy, A: Allocator + Copy> Sheet<K, E, A> {
 
     /// Puts every row of one node beside every row of another.
     pub fn cross_join(&mut self, left: usize, right: usize) -> Result<usize, Refusal>
-        ensures outcome { Outcome K.relation (E.Estimator.figure self.old.estimator) (order (cross left right)) (held self.old) result (held self.new) }
-        ensures keeps { Keeps K.relation (E.Estimator.figure self.old.estimator) (held self.old) (held self.new) }
-        ensures estimator { self.new.estimator ≡ self.old.estimator }
+        ensures { Called K.relation E.Estimator.figure (order (cross left right)) self.old result self.new }
     {
         self.head
             .cross_join(&mut self.nodes, &mut self.columns, left, right)
@@ -83,9 +73,7 @@ impl<K: Key, E: Estimator<K> + Copy, A: Allocator + Copy> Sheet<K, E, A> {
 
     /// Skips rows of a node, and fetches at most so many of the others.
     pub fn limit(&mut self, child: usize, skip: u64, fetch: Option<u64>) -> Result<usize, Refusal>
-        ensures outcome { Outcome K.relation (E.Estimator.figure self.old.estimator) (order (limit child skip fetch)) (held self.old) result (held self.new) }
-        ensures keeps { Keeps K.relation (E.Estimator.figure self.old.estimator) (held self.old) (held self.new) }
-        ensures estimator { self.new.estimator ≡ self.old.estimator }
+        ensures { Called K.relation E.Estimator.figure (order (limit child skip fetch)) self.old result self.new }
     {
         self.head
             .limit(&mut self.nodes, &mut self.columns, child, skip, fetch)
@@ -93,9 +81,7 @@ impl<K: Key, E: Estimator<K> + Copy, A: Allocator + Copy> Sheet<K, E, A> {
 
     /// Puts the rows of 1 to 8 nodes one after the other.
     pub fn union(&mut self, children: &[usize]) -> Result<usize, Refusal>
-        ensures outcome { Outcome K.relation (E.Estimator.figure self.old.estimator) (order (union children.now)) (held self.old) result (held self.new) }
-        ensures keeps { Keeps K.relation (E.Estimator.figure self.old.estimator) (held self.old) (held self.new) }
-        ensures estimator { self.new.estimator ≡ self.old.estimator }
+        ensures { Called K.relation E.Estimator.figure (order (union children.now)) self.old result self.new }
     {
         self.head
             .union(&mut self.nodes, &mut self.columns, children)
@@ -103,9 +89,7 @@ impl<K: Key, E: Estimator<K> + Copy, A: Allocator + Copy> Sheet<K, E, A> {
 
     /// Groups a node's rows by keys.
     pub fn group(&mut self, grouping: &Grouping<'_>) -> Result<usize, Refusal>
-        ensures outcome { Outcome K.relation (E.Estimator.figure self.old.estimator) (order (group_of grouping.now)) (held self.old) result (held self.new) }
-        ensures keeps { Keeps K.relation (E.Estimator.figure self.old.estimator) (held self.old) (held self.new) }
-        ensures estimator { self.new.estimator ≡ self.old.estimator }
+        ensures { Called K.relation E.Estimator.figure (order (group_of grouping.now)) self.old result self.new }
     {
         self.head
             .group(&mut self.nodes, &mut self.columns, grouping)
@@ -113,9 +97,7 @@ impl<K: Key, E: Estimator<K> + Copy, A: Allocator + Copy> Sheet<K, E, A> {
 
     /// Keeps nodes 1 to `n`; node and column memory after them is used again.
     pub fn cut(&mut self, n: usize) -> Result<usize, Refusal>
-        ensures outcome { Outcome K.relation (E.Estimator.figure self.old.estimator) (cut n) (held self.old) result (held self.new) }
-        ensures keeps { Keeps K.relation (E.Estimator.figure self.old.estimator) (held self.old) (held self.new) }
-        ensures estimator { self.new.estimator ≡ self.old.estimator }
+        ensures { Called K.relation E.Estimator.figure (cut n) self.old result self.new }
     {
         self.head.cut(&self.nodes, &self.columns, n)
     }

@@ -5,7 +5,7 @@
 
 use estimators::{Chain, Product, Widest};
 use keys::Whole;
-use orders::{Order, Table, choose, orders, pair_to};
+use orders::{Order, Table, choose, orders};
 use questions::{JoinType, KeyPair, KeySide, NullEquality};
 use sheet::{AggregateMode, Grouping, Join, Refusal};
 use sheets::Sheet;
@@ -28,14 +28,17 @@ fn numbers(nulls: u64, distincts: u64, highest: i64) -> ColumnStatistics<Whole> 
     ColumnStatistics {
         null_count: Precision::Exact(nulls),
         distinct_count: Precision::Exact(distincts),
-        byte_size: NONE,
         min_value: Precision::Exact(Whole(1)),
         max_value: Precision::Exact(Whole(highest)),
+        ..ColumnStatistics::unknown()
     }
 }
 
+// A refused step is printed and the report goes on, so a step's answer goes on as a
+// value, and no `?` ends the report with it.
 impl Report<'_> {
     /// Counts below the heads of their columns, to the end of the line.
+    // The planner has the same loop: they are two programs, and no crate below prints.
     fn print_counts(&self, counts: &[Precision<u64>]) -> io::Result<()> {
         for count in counts {
             let count = count.to_string(self.rt.alloc())?;
@@ -95,7 +98,7 @@ impl Report<'_> {
         before: Result<usize, Refusal>,
         table: Table,
     ) -> Result<usize, Refusal> {
-        let pair = pair_to(order, table);
+        let pair = order.pair_to(table);
         self.join_by(JoinType::Inner, before?, table.number(), pair)
     }
 
@@ -116,7 +119,7 @@ impl Report<'_> {
         let [a, b, c, d] = order.tables;
         print!(self.rt; "     {a:<9}{b:<9}{c:<9}{d:<9}")?;
         self.print_counts(&[one, two, three, cost])?;
-        if let Err(refusal) = self.sheet.cut(4) {
+        if let Err(refusal) = self.sheet.cut(Table::Lifts.number()) {
             self.print_refusal("cut", refusal)?;
         }
         Ok(cost)
@@ -125,12 +128,8 @@ impl Report<'_> {
     /// Prints every order, and gives the one with the fewest rows.
     fn print_orders(&mut self) -> io::Result<Order> {
         let all = orders();
-        let mut costs = Vec::new(self.rt.alloc());
-        for order in all {
-            costs.push(self.print_order(&order)?)?;
-        }
-        let chosen = choose(&costs).and_then(|i| all.get(i).copied());
-        Ok(chosen.unwrap_or(all[0]))
+        let costs = all.try_map(|order| self.print_order(&order))?;
+        Ok(choose(&costs).map_or(all[0], |i| all[i]))
     }
 
     /// Lays the tables of the report, each with its label.
@@ -211,9 +210,10 @@ impl Report<'_> {
             left: KeySide::Column(7),
             right: KeySide::Column(0),
         };
-        let lost = self.join_by(JoinType::Inner, 1, 2, pair);
+        let (payments, members) = (Table::Payments.number(), Table::Members.number());
+        let lost = self.join_by(JoinType::Inner, payments, members, pair);
         self.print_node("joined by its 8th column", lost)?;
-        let page = self.sheet.limit(1, 9000, None);
+        let page = self.sheet.limit(payments, 9000, None);
         self.print_node("payments after 9000", page)
     }
 }

@@ -6,3 +6,4 @@ pub mod Scaling
 pub mod Distincts
 pub mod Bytes
 pub mod Totals
+pub mod Products

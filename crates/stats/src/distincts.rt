@@ -9,10 +9,7 @@ use keys::Key;
 fn not_null_count(num_rows: Precision<u64>, null_count: Precision<u64>) -> Precision<u64>
     ensures { result ≡ not_null num_rows null_count }
 {
-    match null_count {
-        Precision::Absent => num_rows.sub(Precision::Inexact(0)),
-        known => num_rows.sub(known),
-    }
+    num_rows.sub(null_count.or_else(|| Precision::Inexact(0)))
 }
 
 /// How many values lie between a column's ends, if that is known.

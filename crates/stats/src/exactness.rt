@@ -1,6 +1,7 @@
 //! Values together with what is known of their exactness.
-ghost use Rattle.std.specs.Prelude.{◌≡◌, ◌-◌, min, max};
+ghost use Rattle.std.specs.Prelude.{◌≡◌, ◌-◌, min, max, is_some, IsTrue};
 ghost use Rattle.std.specs.Option.{ForSome};
+ghost use Rattle.stats.specs.declared.exactness.Precision.TheVariants.{Absent};
 ghost use Rattle.stats.specs.Precisions.{inexact, known, both, paired, Mapped, FilterMapped, total, capped, at_most, or_zero, shown_as};
 
 use std::fmt;
@@ -71,6 +72,19 @@ impl<T: Copy> Precision<T> {
             _ => Precision::Absent,
         }
     }
+
+    /// The value as it is, or else what `next` gives.
+    // Fn, though it runs at most once: under FnOnce a caller's proof stayed open.
+    pub fn or_else<F: Fn() -> Precision<T>>(self, next: F) -> Precision<T>
+        requires { F.IsAlwaysCallable next }
+        ensures present { IsTrue (is_some (known self)) → result ≡ self }
+        ensures absent { self ≡ Absent → F.post next result }
+    {
+        match self {
+            Precision::Absent => next(),
+            present => present,
+        }
+    }
 }
 
 impl Precision<u64> {
@@ -87,6 +101,7 @@ impl Precision<u64> {
     }
 
     /// A sum that passes 64 bits stops at their greatest number and is Inexact.
+    // No `Add`: `+` would not say that a sum stops.
     pub fn add(self, other: Precision<u64>) -> Precision<u64>
         ensures { result ≡ total self other }
     {
@@ -97,6 +112,7 @@ impl Precision<u64> {
     }
 
     /// The difference, not below 0.
+    // No `Sub`: `-` would not say that a difference stops.
     pub fn sub(self, other: Precision<u64>) -> Precision<u64>
         ensures { result ≡ both ◌-◌ self other }
     {
@@ -131,6 +147,7 @@ impl Precision<u64> {
 }
 
 /// `=5` is Exact, `~5` Inexact, `-` Absent.
+// No padded form: a value has none of its own, so programs pad the text.
 impl<T: fmt::Display> fmt::Display for Precision<T> {
     ghost output = { λ p. shown_as T.Display.output p };
 

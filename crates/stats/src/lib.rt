@@ -7,6 +7,7 @@ mod columns;
 mod distincts;
 mod exactness;
 mod limits;
+mod products;
 mod scaling;
 mod totals;
 
@@ -15,6 +16,7 @@ pub use columns::{ColumnStatistics, all_sound};
 pub use distincts::max_distinct_count;
 pub use exactness::Precision;
 pub use limits::{MAX_COLUMN_BYTES, MAX_COUNT, MAX_NODE_BYTES};
+pub use products::stopping_product;
 pub use scaling::scale_subset_count;
 pub use totals::total_of;
 

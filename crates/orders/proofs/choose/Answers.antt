@@ -1,22 +1,15 @@
-use Rattle.std.proofs.Common.{◌≡◌, ℕ, ◌+◌, Some, sym, ◌∙◌, subst, arith}
-use Rattle.stats.specs.declared.exactness.Precision.TheVariants.{Exact}
-use Rattle.orders.proofs.Cheaper.{BestOf, best_at_0, best_new, best_stays, read_cheaper}
-use Rattle.orders.proofs.choose.Goals.{in-Some, in_default-2, in_default}
+use Rattle.std.proofs.Common.{rules, ◌+◌, Some, cond, sym, ap, ◌∙◌, subst}
+use Rattle.orders.proofs.Cheaper.{BestOf, next_best}
+use Rattle.orders.proofs.choose.Goals.{then-is_none_or, else-is_none_or}
 use Rattle.orders.proofs.choose.Goals as goal
 
 pub loop-i-preserved : goal.loop-i-preserved
 loop-i-preserved c =
     let costs = c.args.costs.now in
     let i = c.loop-i.i in
-    let before = λ (b : ℕ) (e : c.loop-i.best ≡ Some b). subst (BestOf costs i) e c.loop-i.invariant in
-    elim c.match-best.branch [
-      | in-Some w ↦
-          let b = w.in-Some.b in
-          let old = before b w.in-Some.is in
-          subst (BestOf costs (i + 1)) (sym w.best-is) (best_stays costs i b old (read_cheaper costs i b (Exact 0) c.loop-i-test.true (let h = old.among in omega arith) ∙ sym w.is_cheaper.ensures ∙ w.if-not-is_cheaper.true))
-      | in_default-2 w ↦
-          let b = w.in-Some.b in
-          let old = before b w.in-Some.is in
-          subst (BestOf costs (i + 1)) (sym w.best-is) (best_new costs i b old (read_cheaper costs i b (Exact 0) c.loop-i-test.true (let h = old.among in omega arith) ∙ sym w.is_cheaper.ensures ∙ w.if-not-is_cheaper.false))
-      | in_default w ↦ subst (BestOf costs (i + 1)) (sym w.best-is) (best_at_0 costs i (subst (BestOf costs i) w.in_default.is c.loop-i.invariant))
+    let best = c.loop-i.best in
+    let next = next_best costs i best c.is_none_or.result c.loop-i-test.true c.loop-i.invariant c.is_none_or.ensures (λ b q. search rules) in
+    elim c.if-is_none_or.branch [
+      | then-is_none_or w ↦ subst (BestOf costs (i + 1)) (ap (λ r. cond r (Some i) best) w.if-is_none_or.true ∙ sym w.best-is) next
+      | else-is_none_or w ↦ subst (BestOf costs (i + 1)) (ap (λ r. cond r (Some i) best) w.if-is_none_or.false ∙ sym w.best-is) next
     ]

@@ -1,9 +1,6 @@
 use Rattle.std.proofs.Common.{◌∙◌}
-use Rattle.sheets.proofs.Refilled.{outcome_put_back, keeps_put_back}
+use Rattle.sheets.proofs.Refilled.{called_put_back}
 use Rattle.sheets.proofs.Sheet.lay.Goals as goal
 
-pub returns-clause-outcome : goal.returns-clause-outcome
-returns-clause-outcome g c = outcome_put_back c.args.self.now c.deref_mut.ensures.value c.deref_mut-2.ensures.value (c.lay.auto.nodes ∙ c.deref_mut.ensures.len) (c.lay.auto.columns ∙ c.deref_mut-2.ensures.len) (c.lay.ensures.outcome _)
-
-pub returns-clause-keeps : goal.returns-clause-keeps
-returns-clause-keeps g c = keeps_put_back c.args.self.now c.deref_mut.ensures.value c.deref_mut-2.ensures.value (c.lay.auto.nodes ∙ c.deref_mut.ensures.len) (c.lay.auto.columns ∙ c.deref_mut-2.ensures.len) (c.lay.ensures.keeps _ (g.met.E.Estimator.shares _) (g.met.E.Estimator.mirrors _))
+pub returns : goal.returns
+returns g c = called_put_back c.args.self.now c.deref_mut.ensures.value c.deref_mut-2.ensures.value (c.lay.auto.nodes ∙ c.deref_mut.ensures.len) (c.lay.auto.columns ∙ c.deref_mut-2.ensures.len) (c.lay.ensures.outcome _) (c.lay.ensures.keeps _ (g.met.E.Estimator.shares _) (g.met.E.Estimator.mirrors _))

@@ -13,8 +13,8 @@ of_known : (t : JoinType) (l r p : Option ℕ) (a b : ℕ) → Some (a, b) ≡ o
 of_known t (Some l) (Some r) p a b e =
     let k : ◌≡◌ {A = ℕ × ℕ} (a, b) (l, r) = cc in
     λ i. product_by t (k i).0 (k i).1 (joined_by (k i).0 (k i).1 p)
-of_known t (Some l) None p a b e = absurd (cc)
-of_known t None r p a b e = absurd (cc)
+of_known t (Some l) None p a b e = cc
+of_known t None r p a b e = cc
 
 pub joined_by-joined-requires : goal.joined_by-joined-requires
 joined_by-joined-requires g c = subst Positive (sym c.divisor.ensures) (divisor_positive (keys_from Left (asked c.args.self.now.question.now)))
