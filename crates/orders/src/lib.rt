@@ -151,6 +151,7 @@ pub fn choose(costs: &[Precision<u64>]) -> Option<usize>
     ensures chosen { Chosen costs.now result }
     ensures first { IfSome result (First costs.now) }
 {
+    // `min_by_key` is no plainer: its key is a pair, since `None` comes before each `Some`.
     let mut best = None;
     for (i, cost) in costs.iter().enumerate() {
         if best.is_none_or(|b| is_cheaper(*cost, costs[b])) {

@@ -34,8 +34,7 @@ fn numbers(nulls: u64, distincts: u64, highest: i64) -> ColumnStatistics<Whole> 
     }
 }
 
-// A refused step is printed and the report goes on, so a step's answer goes on as a
-// value, and no `?` ends the report with it.
+// A refused step is printed and the report goes on, so its Result is passed on as a value.
 impl Report<'_> {
     /// Counts below the heads of their columns, to the end of the line.
     // The planner has the same loop: they are two programs, and no crate below prints.
