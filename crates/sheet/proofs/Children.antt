@@ -4,8 +4,9 @@ use Rattle.std.proofs.Common.{◌≡◌, ℕ, ◌+◌, ◌<◌, ◌≤◌, true,
 use Rattle.std.specs.List.{list_all}
 use Rattle.std.proofs.lemmas.Bool.{and_parts, leb-true}
 use Rattle.std.proofs.lemmas.Bool.Decides.{nat_tests}
-use Rattle.std.proofs.lemmas.List.{places, same_lists}
+use Rattle.std.proofs.lemmas.List.{places, same_lists, length-take}
 use Rattle.keys.specs.declared.Relation.{Relation}
+use Rattle.stats.specs.declared.columns.ColumnStatistics.{ColumnStatistics}
 use Rattle.stats.specs.Precisions.{at_most}
 use Rattle.stats.specs.Limits.{max_count, max_node_bytes}
 use Rattle.questions.specs.declared.figures.Figure.{Figure}
@@ -36,6 +37,8 @@ pub record Readable {K : Type 0} (s : Sheet K) (node : Node) : Type 0 where
   pub below : node.place + node.width ≤ s.head.used
   pub wide : length (block s.columns node) ≡ node.width
   pub same : block (take s.head.used s.columns) node ≡ block s.columns node
+  pub inside : (front : List (ColumnStatistics K)) → front ≡ take s.head.used s.columns → node.place + node.width ≤ length front
+  pub long : (front : List (ColumnStatistics K)) → front ≡ take s.head.used s.columns → length (block front node) ≡ node.width
 
 module _ {K : Type 0} (relation : K → K → Relation) (s : Sheet K) where
   pub early_passed : (o : Order K) → Ok tt ≡ checked (early_refusal relation s o) → Early relation s o
@@ -73,6 +76,8 @@ module _ {K : Type 0} (relation : K → K → Relation) (s : Sheet K) where
         below = u;
         wide = block_length s node u l;
         same = used_block node u l;
+        inside = λ front e. let f = ap length e in omega (arith, length-take s.head.used s.columns);
+        long = λ front e. ap (λ d. length (block d node)) e ∙ ap length (used_block node u l) ∙ block_length s node u l;
       }
 
   module _ (o : Order K) (e : Early relation s o) where

@@ -15,15 +15,6 @@ pub refused_early : {K : Type 0} (o p : Option Refusal) (s t : Sheet K) (r : Res
 refused_early (Some y) p s t r x e d = let i : x ≡ y = cc in ap (λ a. stepped a s) (e ∙ ap Err i)
 refused_early None p s t r x e d = cc
 
--- or by the size of what it makes
-pub refused_size : {K : Type 0} (o p q : Option Refusal) (s t : Sheet K) (r : Result ℕ Refusal) (x : Refusal) → o ≡ None → r ≡ Err x → Err x ≡ checked p → stepped r s ≡ settled (option_or o (option_or p q)) s t
-refused_size o (Some y) q s t r x n e d = let i : x ≡ y = cc in ap (λ a. stepped a s) (e ∙ ap Err i) ∙ sym (ap (λ a. settled (option_or a (Some y)) s t) n)
-refused_size o None q s t r x n e d = cc
-
--- an order without a cause
-pub no_cause : (o p : Option Refusal) → o ≡ None → p ≡ None → option_or o (option_or p None) ≡ None
-no_cause o p a b = (λ i. option_or (a i) (option_or (b i) None))
-
 pub accepted_step : {K : Type 0} (o : Option Refusal) (s t u : Sheet K) (n : ℕ) → o ≡ None → n ≡ u.head.count → u ≡ t → stepped (Ok n) u ≡ settled o s t
 accepted_step o s t u n e d i = (λ j. stepped (Ok (d j)) u) ∙ ap (λ v. stepped (Ok v.head.count) v) i ∙ sym (ap (λ q. settled q s t) e)
 

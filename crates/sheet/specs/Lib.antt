@@ -4,6 +4,7 @@ pub mod Sheets
 pub mod Calls
 pub mod Made
 pub mod Views
+pub mod Writers
 pub mod Causes
 pub mod Steps
 pub mod Least

@@ -1,37 +1,64 @@
 //! The calls, over memory that is handed in.
-ghost use Rattle.std.specs.Prelude.{◌≡◌, ◌+◌, ◌<◌, ◌≤◌, length, map, take, drop, slice_set};
+ghost use Rattle.std.specs.Prelude.{◌≡◌, ◌+◌, ◌<◌, ◌≤◌, List, None, length, map, slice_set};
 ghost use Rattle.std.proofs.Math.Seq.{paste};
 ghost use Rattle.stats.specs.Trim.{trimmed};
 ghost use Rattle.sheet.specs.Sheets.{sheet_of};
 ghost use Rattle.sheet.specs.Calls.{order, lay, cut};
-ghost use Rattle.sheet.specs.Steps.{stepped, step, no_figure};
+ghost use Rattle.sheet.specs.Made.{Made};
+ghost use Rattle.sheet.specs.Steps.{stepped, step, no_figure, node_made, carried};
+ghost use Rattle.sheet.specs.Writers.{MayWrite, Leaves};
+ghost use Rattle.stats.specs.declared.columns.ColumnStatistics.{ColumnStatistics};
 
 use crate::blocks::trim_all;
+use crate::checks::check_size;
 use crate::views::View;
 use crate::{Head, Node, Operator, Refusal};
 use keys::Key;
 use stats::{ColumnStatistics, Precision};
 
-/// Adds a node after the others. Its columns stand after the used part, and are
-/// trimmed to its rows.
-pub(crate) fn add_node<K: Key>(
+/// Adds a node after the others. Its columns stand after the used part: `write` writes them
+/// there, from what it reads of the used part, and they are trimmed to the node's rows.
+// Fn, though it runs once: of an FnOnce over a borrow a proof learns no result.
+pub(crate) fn add_node<K: Key, W: Fn(&mut [ColumnStatistics<K>], &[ColumnStatistics<K>])>(
     head: &mut Head,
     nodes: &mut [Node],
     columns: &mut [ColumnStatistics<K>],
     node: Node,
+    write: W,
 ) -> usize
     requires room { head.old.count < length nodes.old }
     requires space { head.old.used + node.width ≤ length columns.old }
+    requires writes { MayWrite W.Fn write head.old.used node.width columns.old }
     ensures number { result ≡ head.old.count + 1 }
     ensures counts { head.new ≡ record { count = head.old.count + 1; used = head.old.used + node.width } }
     ensures adds { nodes.new ≡ slice_set nodes.old head.old.count node }
-    ensures trims { columns.new ≡ paste columns.old head.old.used (map (trimmed node.rows) (take node.width (drop head.old.used columns.old))) node.width }
+    ensures trims { (m : List (ColumnStatistics K)) → Leaves W.Fn write head.old.used node.width columns.old m → columns.new ≡ paste columns.old head.old.used (map (trimmed node.rows) m) node.width }
 {
-    trim_all(&mut columns[head.used..head.used + node.width], node.rows);
+    let (used, free) = columns.split_at_mut(head.used);
+    let block = &mut free[..node.width];
+    write(block, used);
+    trim_all(block, node.rows);
     nodes[head.count] = node;
     head.count += 1;
     head.used += node.width;
     head.count
+}
+
+/// Adds a node after the others, unless its rows or bytes are over the limits.
+pub(crate) fn carry_out<K: Key, W: Fn(&mut [ColumnStatistics<K>], &[ColumnStatistics<K>])>(
+    head: &mut Head,
+    nodes: &mut [Node],
+    columns: &mut [ColumnStatistics<K>],
+    node: Node,
+    write: W,
+) -> Result<usize, Refusal>
+    requires room { head.old.count < length nodes.old }
+    requires space { head.old.used + node.width ≤ length columns.old }
+    requires writes { MayWrite W.Fn write head.old.used node.width columns.old }
+    ensures { (m : Made K) → node ≡ node_made node.operator m.rows m.bytes m.figure head.old.used (length m.columns) → Leaves W.Fn write head.old.used node.width columns.old m.columns → stepped result (sheet_of head.new nodes.new columns.new) ≡ carried None node.operator m (sheet_of head.old nodes.old columns.old) }
+{
+    check_size(node.rows, node.bytes)?;
+    Ok(add_node(head, nodes, columns, node, write))
 }
 
 // The calls take head, nodes and columns by themselves: they are handed in so, and a
@@ -54,8 +81,6 @@ pub(crate) fn laid_on<K: Key>(
         columns,
     };
     view.check_lay(rows, bytes, laid)?;
-    let (_, free) = columns.split_at_mut(head.used);
-    free[..laid.len()].copy_from_slice(laid);
     let node = Node {
         rows,
         bytes,
@@ -64,7 +89,9 @@ pub(crate) fn laid_on<K: Key>(
         figure: None,
         operator: Operator::Lay,
     };
-    Ok(add_node(head, nodes, columns, node))
+    Ok(add_node(head, nodes, columns, node, |block, _| {
+        block.copy_from_slice(laid)
+    }))
 }
 
 /// Keeps nodes 1 to `n`; the memory after them is used again.

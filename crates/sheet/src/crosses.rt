@@ -1,16 +1,16 @@
 //! Cross joins.
-ghost use Rattle.std.specs.Prelude.{◌≡◌, ◌*◌, true};
+ghost use Rattle.std.specs.Prelude.{◌≡◌, ◌*◌, ◌+◌, ◌≤◌, ◌++◌, length, true};
 ghost use Rattle.stats.specs.Precisions.{both, at_most};
 ghost use Rattle.stats.specs.Limits.{max_count};
-ghost use Rattle.sheet.specs.Sheets.{sheet_of};
+ghost use Rattle.sheet.specs.Sheets.{sheet_of, block};
 ghost use Rattle.sheet.specs.Views.{seen};
 ghost use Rattle.sheet.specs.Calls.{order, cross};
 ghost use Rattle.sheet.specs.Causes.{early_refusal};
 ghost use Rattle.sheet.specs.Steps.{stepped, checked, step, no_figure};
 
 use crate::blocks::put_both;
-use crate::calls::add_node;
-use crate::checks::{MAX_WIDTH, check_size, refuse_unless};
+use crate::calls::carry_out;
+use crate::checks::{MAX_WIDTH, refuse_unless};
 use crate::views::{View, block_of};
 use crate::{Head, Node, Operator, Refusal};
 use keys::Key;
@@ -58,14 +58,7 @@ pub(crate) fn crossed_on<K: Key>(
     view.check_cross(l, r)?;
     let (left, right) = (view.node(l), view.node(r));
     let rows = crossed_rows(left.rows, right.rows);
-    check_size(rows, Precision::Absent)?;
     let width = left.width + right.width;
-    let (used, free) = columns.split_at_mut(head.used);
-    put_both(
-        &mut free[..width],
-        block_of(used, &left),
-        block_of(used, &right),
-    );
     let node = Node {
         rows,
         bytes: Precision::Absent,
@@ -74,5 +67,16 @@ pub(crate) fn crossed_on<K: Key>(
         figure: None,
         operator: Operator::Cross { left: l, right: r },
     };
-    Ok(add_node(head, nodes, columns, node))
+    carry_out(
+        head,
+        nodes,
+        columns,
+        node,
+        |free, used|
+            requires left_inside { left.place + left.width ≤ length used.now }
+            requires right_inside { right.place + right.width ≤ length used.now }
+            requires wide { length free.old ≡ length (block used.now left) + length (block used.now right) }
+            ensures { free.new ≡ block used.now left ++ block used.now right }
+        { put_both(free, block_of(used, &left), block_of(used, &right)) },
+    )
 }

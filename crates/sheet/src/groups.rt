@@ -1,10 +1,10 @@
 //! Groupings by keys.
-ghost use Rattle.std.specs.Prelude.{◌≡◌, ℕ, ◌+◌, map, length, Some, fold};
+ghost use Rattle.std.specs.Prelude.{◌≡◌, ℕ, ◌+◌, ◌≤◌, map, length, Some, fold};
 ghost use Rattle.std.specs.List.{list_all};
 ghost use Rattle.stats.specs.declared.exactness.Precision.{Precision};
 ghost use Rattle.stats.specs.Precisions.{known};
 ghost use Rattle.questions.specs.Types.{key_inside};
-ghost use Rattle.sheet.specs.Sheets.{sheet_of};
+ghost use Rattle.sheet.specs.Sheets.{sheet_of, table_of};
 ghost use Rattle.sheet.specs.Views.{seen};
 ghost use Rattle.sheet.specs.Calls.{order, group_of};
 ghost use Rattle.sheet.specs.Made.{whole_mode, key_groups, groups_times, group_count, at_most_rows, key_column, groups_rows, groups_bytes, grouped_by};
@@ -12,8 +12,8 @@ ghost use Rattle.sheet.specs.Causes.{early_refusal};
 ghost use Rattle.sheet.specs.Steps.{stepped, checked, step, no_figure};
 
 use crate::blocks::put_unknown;
-use crate::calls::add_node;
-use crate::checks::{MAX_WIDTH, check_size, refuse_unless};
+use crate::calls::carry_out;
+use crate::checks::{MAX_WIDTH, refuse_unless};
 use crate::shorts::short_of;
 use crate::views::{View, block_of};
 use crate::{AggregateMode, Head, Node, Operator, Refusal};
@@ -93,6 +93,7 @@ fn group_size(groups: Option<u64>, from: &Node) -> (Precision<u64>, Precision<u6
     ensures rows { result.0 ≡ groups_rows groups from.now.rows }
     ensures bytes { result.1 ≡ groups_bytes groups from.now.rows from.now.bytes }
 {
+    // Not by map_or: the pair of two Absent would stand before the sizes.
     match groups {
         Some(groups) => {
             let rows = Precision::Inexact(at_most_rows(groups, from.rows));
@@ -120,7 +121,8 @@ fn put_keys<K: Key>(
     requires { length block.old ≡ length by.now }
     ensures { block.new ≡ map (key_column columns.now) by.now }
 {
-    // Not by iter_mut().zip(..): after that a proof knows the block's length alone.
+    // Not by iter_mut().zip(..): after that a proof knows the block's length alone. And not
+    // one loop with that of a part: of its closure it would know what it may answer.
     for (i, key) in by.iter().enumerate() {
         block[i] = key_column(columns, *key);
     }
@@ -180,10 +182,7 @@ pub(crate) fn grouped_on<K: Key>(
     let from = view.node(grouping.child);
     let groups = count_groups(block_of(columns, &from), grouping);
     let (rows, bytes) = group_size(groups, &from);
-    check_size(rows, bytes)?;
     let width = grouping.by.len() + grouping.extras;
-    let (used, free) = columns.split_at_mut(head.used);
-    put_grouped(&mut free[..width], block_of(used, &from), grouping, groups);
     let node = Node {
         rows,
         bytes,
@@ -198,5 +197,15 @@ pub(crate) fn grouped_on<K: Key>(
             by: short_of(KeySide::Column(0), grouping.by),
         },
     };
-    Ok(add_node(head, nodes, columns, node))
+    carry_out(
+        head,
+        nodes,
+        columns,
+        node,
+        |free, used|
+            requires inside { from.place + from.width ≤ length used.now }
+            requires wide { length free.old ≡ length grouping.now.by.now + grouping.now.extras }
+            ensures { free.new ≡ (grouped_by groups grouping.entry.now.extras grouping.entry.now.by.now (table_of used.now from)).columns }
+        { put_grouped(free, block_of(used, &from), grouping, groups) },
+    )
 }

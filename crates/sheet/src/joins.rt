@@ -12,8 +12,8 @@ ghost use Rattle.sheet.specs.Causes.{join_width, early_refusal};
 ghost use Rattle.sheet.specs.Steps.{stepped, checked, step};
 
 use crate::blocks::{loosen, put_both, put_unknown};
-use crate::calls::add_node;
-use crate::checks::{MAX_WIDTH, check_size, refuse_unless};
+use crate::calls::carry_out;
+use crate::checks::{MAX_WIDTH, refuse_unless};
 use crate::parts::{Part, PartKind, bytes_in, rows_in};
 use crate::shorts::short_of;
 use crate::views::{Table, View, table_of};
@@ -115,6 +115,7 @@ fn part_size<K: Key>(
     ensures rows { (anti : Bool) (rule : NullEquality) (keys : List ℕ) → result.0 ≡ (part anti rule keys figure (told from.now)).rows }
     ensures bytes { (anti : Bool) (rule : NullEquality) (keys : List ℕ) → result.1 ≡ (part anti rule keys figure (told from.now)).bytes }
 {
+    // Not by map_or: the pair of two Absent would stand before the sizes.
     match from.rows.get_value() {
         Some(old_rows) => {
             let rows = rows_in(figure, from.rows);
@@ -223,31 +224,6 @@ impl<K: Key> Joined<'_, '_, '_, K> {
     }
 }
 
-/// Writes the columns of a join of nodes of the used part.
-// It takes the nodes and not their tables: after a call, a proof loses one half of a
-// slice that is split where a struct holds the other.
-fn write_joined<K: Key>(
-    block: &mut [ColumnStatistics<K>],
-    used: &[ColumnStatistics<K>],
-    left: &Node,
-    right: &Node,
-    join: &Join<'_>,
-    figure: Option<Figure>,
-)
-    requires left_inside { left.now.place + left.now.width ≤ length used.now }
-    requires right_inside { right.now.place + right.now.width ≤ length used.now }
-    requires wide { length block.old ≡ join_width join.now.join_type left.now.width right.now.width }
-    ensures { block.new ≡ (joined_by join.now.join_type join.now.null_equality join.now.on.now figure (table_of used.now left.now) (table_of used.now right.now)).columns }
-{
-    let joined = Joined {
-        join,
-        left: table_of(used, left),
-        right: table_of(used, right),
-        figure,
-    };
-    joined.put(block)
-}
-
 /// What a node keeps of a join.
 fn join_operator(join: &Join<'_>) -> Operator
     requires few { length join.now.on.now ≤ max_pairs }
@@ -292,10 +268,7 @@ pub(crate) fn joined_on<K: Key, E: Estimator<K>>(
         figure,
     };
     let (rows, bytes) = joined.size();
-    check_size(rows, bytes)?;
     let width = join_width(join.join_type, l.width, r.width) as usize;
-    let (used, free) = columns.split_at_mut(head.used);
-    write_joined(&mut free[..width], used, &l, &r, join, figure);
     let node = Node {
         rows,
         bytes,
@@ -304,5 +277,24 @@ pub(crate) fn joined_on<K: Key, E: Estimator<K>>(
         figure,
         operator: join_operator(join),
     };
-    Ok(add_node(head, nodes, columns, node))
+    carry_out(
+        head,
+        nodes,
+        columns,
+        node,
+        |free, used|
+            requires left_inside { l.place + l.width ≤ length used.now }
+            requires right_inside { r.place + r.width ≤ length used.now }
+            requires wide { length free.old ≡ join_width join.now.join_type l.width r.width }
+            ensures { free.new ≡ (joined_by join.entry.now.join_type join.entry.now.null_equality join.entry.now.on.now figure (table_of used.now l) (table_of used.now r)).columns }
+        {
+            let joined = Joined {
+                join,
+                left: table_of(used, &l),
+                right: table_of(used, &r),
+                figure,
+            };
+            joined.put(free)
+        },
+    )
 }

@@ -1,6 +1,7 @@
 //! Limits: rows after a skip, and a fetch at most.
-ghost use Rattle.std.specs.Prelude.{◌≡◌};
-ghost use Rattle.sheet.specs.Sheets.{sheet_of};
+ghost use Rattle.std.specs.Prelude.{◌≡◌, ◌+◌, ◌≤◌, length, map};
+ghost use Rattle.stats.specs.Columns.{column_inexact};
+ghost use Rattle.sheet.specs.Sheets.{sheet_of, block};
 ghost use Rattle.sheet.specs.Views.{seen};
 ghost use Rattle.sheet.specs.Calls.{order, limit};
 ghost use Rattle.sheet.specs.Made.{fetched, limit_rows};
@@ -8,8 +9,8 @@ ghost use Rattle.sheet.specs.Causes.{early_refusal};
 ghost use Rattle.sheet.specs.Steps.{stepped, checked, step, no_figure};
 
 use crate::blocks::put_loosened;
-use crate::calls::add_node;
-use crate::checks::{MAX_WIDTH, check_size, refuse_unless};
+use crate::calls::carry_out;
+use crate::checks::{MAX_WIDTH, refuse_unless};
 use crate::views::{View, block_of};
 use crate::{Head, Node, Operator, Refusal};
 use keys::Key;
@@ -64,9 +65,6 @@ pub(crate) fn limited_on<K: Key>(
     let from = view.node(child);
     let rows = limited_rows(skip, fetch, from.rows);
     let bytes = rescale_byte_size(from.bytes, from.rows, rows);
-    check_size(rows, bytes)?;
-    let (used, free) = columns.split_at_mut(head.used);
-    put_loosened(&mut free[..from.width], block_of(used, &from));
     let node = Node {
         rows,
         bytes,
@@ -75,5 +73,15 @@ pub(crate) fn limited_on<K: Key>(
         figure: None,
         operator: Operator::Limit { child, skip, fetch },
     };
-    Ok(add_node(head, nodes, columns, node))
+    carry_out(
+        head,
+        nodes,
+        columns,
+        node,
+        |free, used|
+            requires inside { from.place + from.width ≤ length used.now }
+            requires wide { length free.old ≡ length (block used.now from) }
+            ensures { free.new ≡ map column_inexact (block used.now from) }
+        { put_loosened(free, block_of(used, &from)) },
+    )
 }

@@ -10,8 +10,8 @@ ghost use Rattle.sheet.specs.Causes.{union_width, width_fits, columns_fit, max_c
 ghost use Rattle.sheet.specs.Steps.{stepped, checked, step, no_figure};
 
 use crate::blocks::put_unknown;
-use crate::calls::add_node;
-use crate::checks::{MAX_WIDTH, check_size, refuse_unless};
+use crate::calls::carry_out;
+use crate::checks::{MAX_WIDTH, refuse_unless};
 use crate::shorts::short_of;
 use crate::views::View;
 use crate::{Head, Node, Operator, Refusal};
@@ -109,10 +109,7 @@ pub(crate) fn united_on<K: Key>(
     view.check_union(children)?;
     let (rows, bytes) = view.sums(children);
     let bytes = rescale_byte_size(bytes, rows, rows);
-    check_size(rows, bytes)?;
     let width = view.union_width(children);
-    let (_, free) = columns.split_at_mut(head.used);
-    put_unknown(&mut free[..width]);
     let node = Node {
         rows,
         bytes,
@@ -123,5 +120,7 @@ pub(crate) fn united_on<K: Key>(
             children: short_of(0, children),
         },
     };
-    Ok(add_node(head, nodes, columns, node))
+    carry_out(head, nodes, columns, node, |block, _| {
+        put_unknown(block)
+    })
 }

@@ -1,4 +1,4 @@
-use Rattle.std.proofs.Common.{◌≡◌, ℕ, ◌+◌, ◌≤◌, List, [], map, length, take, Ok, Err, None, Option, sym, refl, ap, ◌∙◌, arith}
+use Rattle.std.proofs.Common.{◌≡◌, ℕ, ◌+◌, ◌≤◌, List, [], map, length, take, Ok, Err, None, Option, sym, refl, ap, ◌∙◌, arith, rules}
 use Rattle.std.proofs.lemmas.Result.{err_from_is_err_and}
 use Rattle.keys.specs.declared.Relation.{Relation}
 use Rattle.stats.specs.declared.exactness.Precision.{Precision}
@@ -11,9 +11,10 @@ use Rattle.sheet.specs.Sheets.{Sheet, sheet_of, node_at, block, table_at}
 use Rattle.sheet.specs.Calls.{limit}
 use Rattle.sheet.specs.Made.{Made, limit_rows, limited}
 use Rattle.sheet.specs.Causes.{early_refusal}
-use Rattle.sheet.specs.Steps.{checked, no_figure}
+use Rattle.sheet.specs.Steps.{node_made, checked, carried, no_figure}
 use Rattle.sheet.proofs.Children.{Early, Readable, early_passed, first_readable}
-use Rattle.sheet.proofs.Carried.{free_wide, early_refused, size_refused, carried_out}
+use Rattle.sheet.proofs.Refused.{refused_early, passed}
+use Rattle.sheet.proofs.Carried.{block_wide}
 use Rattle.sheet.proofs.limits.limited_on.Goals as goal
 
 module _ {K : Type 0} (relation : K → K → Relation) (s : Sheet K) (child skip : ℕ) (fetch : Option ℕ) (check : Ok tt ≡ checked (early_refusal relation s (limit child skip fetch))) (from : Node) (is : from ≡ node_at s child) where
@@ -41,57 +42,33 @@ module _ {K : Type 0} (relation : K → K → Relation) (s : Sheet K) (child ski
   block_is : (used : List (ColumnStatistics K)) → used ≡ take s.head.used s.columns → map column_inexact (block used from) ≡ makes.columns
   block_is used front = ap (map column_inexact) ((λ i. block (front i) from) ∙ child_of.same ∙ ap (block s.columns) is)
 
-  record Facts : Type 0 where
-    pub child_of : Readable s from
-    pub space : s.head.used + from.width ≤ length s.columns
-    pub wide : length makes.columns ≡ from.width
-    pub rows_are : (rows : Precision ℕ) → rows ≡ limit_rows skip fetch from.rows → rows ≡ makes.rows
-    pub bytes_are : (rows bytes : Precision ℕ) → rows ≡ limit_rows skip fetch from.rows → bytes ≡ rescaled_bytes from.bytes from.rows rows → bytes ≡ makes.bytes
-    pub block_is : (used : List (ColumnStatistics K)) → used ≡ take s.head.used s.columns → map column_inexact (block used from) ≡ makes.columns
-
-  facts : Facts
-  facts = record { child_of = child_of; space = space; wide = wide; rows_are = rows_are; bytes_are = bytes_are; block_is = block_is }
-
 pub returns-in_err-check_limit : goal.returns-in_err-check_limit
 returns-in_err-check_limit g c =
-    let s = sheet_of c.args.head.now c.args.nodes.now c.args.columns.now in
     let p = err_from_is_err_and c.from_residual.result c.from_residual.ensures.1 in
-    early_refused s (op.Limit c.args.child c.args.skip c.args.fetch) (limited c.args.skip c.args.fetch (table_at s c.args.child)) (early_refusal g.K.Key.relation s (limit c.args.child c.args.skip c.args.fetch)) c.from_residual.result _ (p.1 ∙ ap Err p.2) c.in_err-check_limit.ensures
+    refused_early _ _ _ _ _ _ (p.1 ∙ ap Err p.2) c.in_err-check_limit.ensures
 
-pub returns-in_err-check_size : goal.returns-in_err-check_size
-returns-in_err-check_size g c =
+pub carry_out-requires-clause-writes : goal.carry_out-requires-clause-writes
+carry_out-requires-clause-writes g c free front shows reads =
     let s = sheet_of c.args.head.now c.args.nodes.now c.args.columns.now in
     let check = c.in_ok-check_limit.ensures in
-    let f = facts g.K.Key.relation s c.args.child c.args.skip c.args.fetch check _ c.node-from.ensures in
-    let p = err_from_is_err_and c.from_residual-in_err-check_size.result c.from_residual-in_err-check_size.ensures.1 in
-    size_refused s (op.Limit c.args.child c.args.skip c.args.fetch) (limited c.args.skip c.args.fetch (table_at s c.args.child)) _ _ _ None _
-    (f.rows_are _ c.limited_rows-rows.ensures)
-    (f.bytes_are _ _ c.limited_rows-rows.ensures c.rescale_byte_size-bytes.ensures.value) refl
-    f.wide check
-    _ _ (p.1 ∙ ap Err p.2) c.in_err-check_size.ensures
-
-pub put_loosened-requires : goal.put_loosened-requires
-put_loosened-requires g c =
-    let s = sheet_of c.args.head.now c.args.nodes.now c.args.columns.now in
-    let check = c.in_ok-check_limit.ensures in
-    let f = facts g.K.Key.relation s c.args.child c.args.skip c.args.fetch check _ c.node-from.ensures in
-    let split = c.split_at_mut-used.ensures in
-    let from = f.child_of in
-    free_wide s.columns _ _ s.head.used _ split.value split.front_len f.space ∙
-    sym (ap length c.block_of.ensures ∙ ap (λ d. length (block d c.node-from.result)) split.front ∙ ap length from.same ∙ from.wide)
+    let r = g.K.Key.relation in
+    let from = c.node-from.ensures in
+    let child = child_of r s c.args.child c.args.skip c.args.fetch check _ from in
+    (child.inside front.now reads, block_wide s.columns free.now s.head.used _ shows (space r s c.args.child c.args.skip c.args.fetch check _ from) ∙ sym (child.long front.now reads))
 
 pub returns : goal.returns
 returns g c =
     let s = sheet_of c.args.head.now c.args.nodes.now c.args.columns.now in
     let check = c.in_ok-check_limit.ensures in
-    let f = facts g.K.Key.relation s c.args.child c.args.skip c.args.fetch check _ c.node-from.ensures in
-    let split = c.split_at_mut-used.ensures in
-    let added = c.add_node.ensures in
-    carried_out s (op.Limit c.args.child c.args.skip c.args.fetch) (limited c.args.skip c.args.fetch (table_at s c.args.child)) _ _ _ None _
-    (f.rows_are _ c.limited_rows-rows.ensures)
-    (f.bytes_are _ _ c.limited_rows-rows.ensures c.rescale_byte_size-bytes.ensures.value) refl
-    f.wide check
-    c.in_ok-check_size.ensures f.space
-    _ _ _ split.value split.front_len
-    (c.put_loosened.ensures ∙ ap (map column_inexact) c.block_of.ensures ∙ f.block_is _ split.front)
-    _ _ _ _ added.number added.counts added.adds added.trims
+    let r = g.K.Key.relation in
+    let from = c.node-from.ensures in
+    let rows = rows_are r s c.args.child c.args.skip c.args.fetch check _ from _ c.limited_rows-rows.ensures in
+    let bytes = bytes_are r s c.args.child c.args.skip c.args.fetch check _ from _ _ c.limited_rows-rows.ensures c.rescale_byte_size-bytes.ensures.value in
+    let filled = wide r s c.args.child c.args.skip c.args.fetch check _ from in
+    let m = limited c.args.skip c.args.fetch (table_at s c.args.child) in
+    c.carry_out.ensures m
+    (λ i. node_made (op.Limit c.args.child c.args.skip c.args.fetch) (rows i) (bytes i) None s.head.used (sym filled i))
+    (λ free left front u shows reads post.
+    let a : left.now ≡ map column_inexact (block front.now c.node-from.result) = search rules in
+    a ∙ block_is r s c.args.child c.args.skip c.args.fetch check _ from front.now reads) ∙
+    (λ i. carried (sym (passed (early_refusal r s (limit c.args.child c.args.skip c.args.fetch)) check) i) (op.Limit c.args.child c.args.skip c.args.fetch) m s)
