@@ -6,10 +6,10 @@ ghost use Rattle.std.specs.Prelude.{◌≡◌, ◌≤◌, [], ◌∷◌, map, na
 ghost use Rattle.std.specs.Fmt.{padded};
 ghost use Rattle.orders.specs.declared.Table.TheVariants.{Payments, Members, Flats, Lifts};
 ghost use Rattle.orders.specs.Orders.{number, name, width, to_next, tables, by_keys, permutations, offset, pair_with_next, pair_with_last, pair_to};
-ghost use Rattle.orders.specs.Choice.{cheaper, Chosen, First};
+ghost use Rattle.orders.specs.Choice.{rows_total, cheaper, Chosen, First};
 
 use questions::{KeyPair, KeySide};
-use stats::Precision;
+use stats::{Precision, total_of};
 use std::fmt;
 
 /// The tables of the report. Each shares a key with the next: a payment's payer is
@@ -136,6 +136,13 @@ impl Order {
             Table::Lifts => self.pair_with_last(Table::Flats),
         }
     }
+}
+
+/// The cost of an order: the rows of its steps, added up.
+pub fn cost(steps: &[Precision<u64>]) -> Precision<u64>
+    ensures { result ≡ rows_total steps.now }
+{
+    total_of(steps)
 }
 
 /// Fewer rows; a cost that is not known is dearer than each that is.

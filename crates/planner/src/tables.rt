@@ -1,10 +1,11 @@
-//! A table's first rows, and the rows of two tables joined.
+//! Row counts of several tables added up, a table's first rows, and the rows of
+//! two tables joined.
 ghost use Rattle.std.specs.Prelude.{◌≡◌};
-ghost use Rattle.planner.specs.Tables.{first_of, key_question, rows_answered};
+ghost use Rattle.planner.specs.Tables.{rows_total, first_of, key_question, rows_answered};
 
 use keys::Whole;
 use questions::{Estimator, JoinInput, JoinQuestion, JoinType, KeyPair, KeySide, NullEquality};
-use stats::{ColumnStatistics, Precision, rescale_byte_size, scale_subset_count};
+use stats::{ColumnStatistics, Precision, rescale_byte_size, scale_subset_count, total_of};
 
 /// What is known of a part of a table.
 #[derive(Clone, Copy)]
@@ -12,6 +13,13 @@ pub struct Part {
     pub rows: Precision<u64>,
     pub bytes: Precision<u64>,
     pub nulls: Precision<u64>,
+}
+
+/// The rows of all tables together.
+pub fn total_rows(tables: &[Precision<u64>]) -> Precision<u64>
+    ensures { result ≡ rows_total tables.now }
+{
+    total_of(tables)
 }
 
 /// The first `most` rows of a table, with their share of its bytes and nulls.
