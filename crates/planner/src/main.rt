@@ -11,9 +11,9 @@ mod tables;
 use estimators::{Chain, Product, Widest};
 use keys::Whole;
 use questions::JoinType;
-use stats::{ColumnStatistics, Precision, max_distinct_count, total_of};
+use stats::{ColumnStatistics, Precision, max_distinct_count};
 use std::io;
-use tables::{KeyedRows, first_rows, join_rows};
+use tables::{KeyedRows, first_rows, join_rows, total_rows};
 
 /// A table of a house: its payments, each with the number of its payer, or its
 /// members, each with their own.
@@ -55,14 +55,15 @@ fn known_payers(
 }
 
 /// A label, and counts below the heads of their columns.
-// The statement has the same loop: they are two programs, and no crate below prints.
+// The whole line is made before it is printed, so that it goes out in one write or not at
+// all. The statement has the same loop: they are two programs, and no crate below prints.
 fn print_line(rt: &HostRuntime, label: &str, counts: &[Precision<u64>]) -> io::Result<()> {
-    print!(rt; "{label:<24}")?;
+    let mut line = format!(in rt.alloc(); "{label:<24}")?;
     for count in counts {
         let count = count.to_string(rt.alloc())?;
-        print!(rt; "{count:>9}")?;
+        write!(line, "{count:>9}")?;
     }
-    println!(rt)
+    println!(rt; "{line}")
 }
 
 fn print_tables(rt: &HostRuntime, houses: &[Table]) -> io::Result<()> {
@@ -94,10 +95,10 @@ fn print_sums(
 ) -> io::Result<()> {
     let sums = [
         ("Alder and Cedar", a.add(c)),
-        ("all three", total_of(&[a, b, c])),
+        ("all three", total_rows(&[a, b, c])),
         (
             "with Dogwood, unknown",
-            total_of(&[a, b, c, Precision::Absent]),
+            total_rows(&[a, b, c, Precision::Absent]),
         ),
         ("most of the three", a.max(b).max(c)),
         ("fewest of the three", a.min(b).min(c)),

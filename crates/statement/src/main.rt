@@ -5,11 +5,11 @@
 
 use estimators::{Chain, Product, Widest};
 use keys::Whole;
-use orders::{Order, Table, choose, orders};
+use orders::{Order, Table, choose, cost, orders};
 use questions::{JoinType, KeyPair, KeySide, NullEquality};
 use sheet::{AggregateMode, Grouping, Join, Refusal};
 use sheets::Sheet;
-use stats::{ColumnStatistics, Precision, total_of};
+use stats::{ColumnStatistics, Precision};
 use std::alloc::Global;
 use std::fmt::Display;
 use std::io;
@@ -36,14 +36,16 @@ fn numbers(nulls: u64, distincts: u64, highest: i64) -> ColumnStatistics<Whole> 
 
 // A refused step is printed and the report goes on, so its Result is passed on as a value.
 impl Report<'_> {
-    /// Counts below the heads of their columns, to the end of the line.
-    // The planner has the same loop: they are two programs, and no crate below prints.
-    fn print_counts(&self, counts: &[Precision<u64>]) -> io::Result<()> {
+    /// The head of a line, and counts below the heads of their columns.
+    // The whole line is made before it is printed, so that it goes out in one write or not at
+    // all. The planner has the same loop: they are two programs, and no crate below prints.
+    fn print_line(&self, head: String, counts: &[Precision<u64>]) -> io::Result<()> {
+        let mut line = head;
         for count in counts {
             let count = count.to_string(self.rt.alloc())?;
-            print!(self.rt; "{count:>9}")?;
+            write!(line, "{count:>9}")?;
         }
-        println!(self.rt)
+        println!(self.rt; "{line}")
     }
 
     fn print_refusal(&self, label: impl Display + Copy, refusal: Refusal) -> io::Result<()> {
@@ -64,8 +66,8 @@ impl Report<'_> {
         };
         let operator = node.operator;
         let figure = node.figure.map_or(NONE, Precision::from);
-        print!(self.rt; "{number:>3}  {label:<26}{operator:<16}")?;
-        self.print_counts(&[node.rows, node.bytes, figure])
+        let head = format!(in self.rt.alloc(); "{number:>3}  {label:<26}{operator:<16}")?;
+        self.print_line(head, &[node.rows, node.bytes, figure])
     }
 
     fn rows_of(&self, answer: Result<usize, Refusal>) -> Precision<u64> {
@@ -114,14 +116,14 @@ impl Report<'_> {
     /// leaves the four tables.
     fn print_order(&mut self, order: &Order) -> io::Result<Precision<u64>> {
         let [one, two, three] = self.join_all(order).map(|answer| self.rows_of(answer));
-        let cost = total_of(&[one, two, three]);
+        let all = cost(&[one, two, three]);
         let [a, b, c, d] = order.tables;
-        print!(self.rt; "     {a:<9}{b:<9}{c:<9}{d:<9}")?;
-        self.print_counts(&[one, two, three, cost])?;
+        let head = format!(in self.rt.alloc(); "     {a:<9}{b:<9}{c:<9}{d:<9}")?;
+        self.print_line(head, &[one, two, three, all])?;
         if let Err(refusal) = self.sheet.cut(Table::Lifts.number()) {
             self.print_refusal("cut", refusal)?;
         }
-        Ok(cost)
+        Ok(all)
     }
 
     /// Prints every order, and gives the one with the fewest rows.
@@ -173,8 +175,8 @@ impl Report<'_> {
         self.print_node("who paid", paid)?;
         let unpaid = self.join_by(JoinType::LeftAnti, members, payments, pair);
         self.print_node("who did not", unpaid)?;
-        print!(self.rt; "     {:<42}", "both together")?;
-        self.print_counts(&[self.rows_of(paid).add(self.rows_of(unpaid))])
+        let head = format!(in self.rt.alloc(); "     {:<42}", "both together")?;
+        self.print_line(head, &[self.rows_of(paid).add(self.rows_of(unpaid))])
     }
 
     /// A page of the statement, the payments of each payer, and those of two houses.
