@@ -56,10 +56,13 @@ pub(crate) fn put_loosened<K: Key>(
 }
 
 /// Trims all columns to a node's rows.
+// Just the two counts are written: a trim leaves the rest of a column as it is.
 pub(crate) fn trim_all<K: Key>(block: &mut [ColumnStatistics<K>], rows: Precision<u64>)
     ensures { block.new ≡ map (trimmed rows) block.old }
 {
     for column in block.iter_mut() {
-        *column = column.trim(rows);
+        let trimmed = column.trim(rows);
+        column.null_count = trimmed.null_count;
+        column.distinct_count = trimmed.distinct_count;
     }
 }

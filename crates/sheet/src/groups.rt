@@ -152,12 +152,12 @@ impl<'a, K: Key> View<'a, K> {
         ensures { result ≡ checked (early_refusal K.relation (seen self.now) (group_of grouping.now)) }
     {
         let by = grouping.by;
-        let from = self.node(grouping.child);
+        let child = self.node(grouping.child).width;
         let width = by.len() as u128 + grouping.extras as u128;
         refuse_unless(self.has_node_room(), Refusal::NodeMemory)?;
         refuse_unless(self.are_fit(&[grouping.child]), Refusal::Child)?;
         refuse_unless(by.len() <= MAX_PAIRS, Refusal::Count)?;
-        refuse_unless(are_keys_inside(from.width, by), Refusal::KeyIndex)?;
+        refuse_unless(are_keys_inside(child, by), Refusal::KeyIndex)?;
         refuse_unless(width <= MAX_WIDTH as u128, Refusal::Width)?;
         let memory = self.has_column_room(&[grouping.child], width);
         refuse_unless(memory, Refusal::ColumnMemory)

@@ -70,8 +70,7 @@ impl<'a, K: Key> View<'a, K> {
     {
         self.nodes
             .get(n.saturating_sub(1))
-            .copied()
-            .unwrap_or(NO_NODE)
+            .map_or(NO_NODE, |node| *node)
     }
 
     /// Whether a node's block lies in the used part of column memory.

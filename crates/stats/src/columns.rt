@@ -51,9 +51,11 @@ impl<K: Key> ColumnStatistics<K> {
     pub fn is_lawful(&self) -> bool
         ensures { result ≡ lawful K.relation self.now }
     {
-        self.max_value.zip(self.min_value).get_value().is_none_or(|(high, low)| {
-            matches!(high.compare(low), Relation::Equal | Relation::After)
-        })
+        let (Some(low), Some(high)) = (self.min_value.get_value(), self.max_value.get_value())
+        else {
+            return true;
+        };
+        matches!(high.compare(low), Relation::Equal | Relation::After)
     }
 
     /// Whether the present counts are at most their limits.

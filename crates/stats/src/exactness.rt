@@ -106,7 +106,9 @@ impl Precision<u64> {
         ensures { result ≡ total self other }
     {
         match self.zip(other) {
-            Precision::Exact((a, b)) if a.checked_add(b).is_none() => Precision::Inexact(u64::MAX),
+            Precision::Exact((a, b)) => a
+                .checked_add(b)
+                .map_or(Precision::Inexact(u64::MAX), Precision::Exact),
             sides => sides.map(|(a, b)| a.saturating_add(b)),
         }
     }
