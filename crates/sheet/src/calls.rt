@@ -16,6 +16,13 @@ use crate::{Head, Node, Operator, Refusal};
 use keys::Key;
 use stats::{ColumnStatistics, Precision};
 
+/// The rows that the columns of a new node are trimmed to: its own, whatever made it.
+fn rows_to_trim(node: &Node) -> Precision<u64>
+    ensures { result ≡ node.now.rows }
+{
+    node.rows
+}
+
 /// Adds a node after the others. Its columns stand after the used part: `write` writes them
 /// there, from what it reads of the used part, and they are trimmed to the node's rows.
 // Fn, though it runs once: of an FnOnce over a borrow a proof learns no result.
@@ -37,7 +44,7 @@ pub(crate) fn add_node<K: Key, W: Fn(&mut [ColumnStatistics<K>], &[ColumnStatist
     let (used, free) = columns.split_at_mut(head.used);
     let block = &mut free[..node.width];
     write(block, used);
-    trim_all(block, node.rows);
+    trim_all(block, rows_to_trim(&node));
     nodes[head.count] = node;
     head.count += 1;
     head.used += node.width;
