@@ -5,12 +5,12 @@ use Rattle.stats.specs.Precisions.{known}
 use Rattle.estimators.specs.declared.pairs.KeyColumns.{KeyColumns}
 use Rattle.estimators.specs.Product.{larger_distinct, stopping_product, divisor, Positive}
 
-larger_positive : (a b : Option ℕ) → Positive (larger_distinct a b)
+pub larger_positive : (a b : Option ℕ) → Positive (larger_distinct a b)
 larger_positive (Some a) (Some b) = grind (arith, nat_tests)
 larger_positive (Some a) None = tt
 larger_positive None b = tt
 
-product_positive : (p d : Option ℕ) → Positive p → Positive d → Positive (stopping_product p d)
+pub product_positive : (p d : Option ℕ) → Positive p → Positive d → Positive (stopping_product p d)
 product_positive (Some p) (Some d) h k = let m : 0 < p * d = mul-pos h k in omega arith
 product_positive (Some p) None h k = tt
 product_positive None d h k = tt

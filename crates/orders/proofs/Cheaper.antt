@@ -65,7 +65,7 @@ module _ (costs : List (Precision ℕ)) (i : ℕ) where
     }
 
 -- values that were read
-read_cheaper : (costs : List (Precision ℕ)) (i b : ℕ) (d : Precision ℕ) → i < length costs → b < length costs → cheaper (get_or costs i Absent) (get_or costs b Absent) ≡ cheaper (get_or costs i d) (get_or costs b d)
+pub read_cheaper : (costs : List (Precision ℕ)) (i b : ℕ) (d : Precision ℕ) → i < length costs → b < length costs → cheaper (get_or costs i Absent) (get_or costs b Absent) ≡ cheaper (get_or costs i d) (get_or costs b d)
 read_cheaper costs i b d h k = λ j. cheaper (get_or_default costs i Absent d h j) (get_or_default costs b Absent d k j)
 
 -- the new one is the best where there was none, or it is cheaper

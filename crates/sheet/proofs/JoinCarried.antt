@@ -55,7 +55,7 @@ module _ {K : Type 0} (estimate : Question K → Option Figure) (s : Sheet K) (t
   same : joined estimate t rule pairs (table_of s.columns left) (table_of s.columns right) ≡ makes
   same = λ i. joined estimate t rule pairs (table_of s.columns (is-left i)) (table_of s.columns (is-right i))
 
-  join_made : code ≡ makes
+  pub join_made : code ≡ makes
   join_made =
       ap (λ x. joined_by t rule pairs x (table_of s.columns left) (table_of s.columns right)) is ∙
       held_made t rule pairs _ (table_of s.columns left) (table_of s.columns right) ∙ same

@@ -32,11 +32,11 @@ module _ {K E A : Type 0} (s : Sheet K E A) where
       after : lent.sheet_of head' nodes' columns' ≡ held (put_back head' nodes' columns')
       after = sym (λ i. lent.sheet_of head' (with_items_is s.nodes nodes' as-many-nodes i) (with_items_is s.columns columns' as-many-columns i))
 
-      outcome_put_back : {relation : K → K → Relation} {estimate : Question K → Option Figure} {call : Call K} {r : Result ℕ Refusal} → Outcome relation estimate call (lent.sheet_of s.head nodes columns) r (lent.sheet_of head' nodes' columns') → Outcome relation estimate call (held s) r (held (put_back head' nodes' columns'))
+      pub outcome_put_back : {relation : K → K → Relation} {estimate : Question K → Option Figure} {call : Call K} {r : Result ℕ Refusal} → Outcome relation estimate call (lent.sheet_of s.head nodes columns) r (lent.sheet_of head' nodes' columns') → Outcome relation estimate call (held s) r (held (put_back head' nodes' columns'))
       outcome_put_back {relation} {estimate} {call} {r} o =
           subst (λ t. Outcome relation estimate call (held s) r t) after (subst (λ t. Outcome relation estimate call t r (lent.sheet_of head' nodes' columns')) before o)
 
-      keeps_put_back : {relation : K → K → Relation} {estimate : Question K → Option Figure} → Keeps relation estimate (lent.sheet_of s.head nodes columns) (lent.sheet_of head' nodes' columns') → Keeps relation estimate (held s) (held (put_back head' nodes' columns'))
+      pub keeps_put_back : {relation : K → K → Relation} {estimate : Question K → Option Figure} → Keeps relation estimate (lent.sheet_of s.head nodes columns) (lent.sheet_of head' nodes' columns') → Keeps relation estimate (held s) (held (put_back head' nodes' columns'))
       keeps_put_back {relation} {estimate} k =
           subst (λ t. Keeps relation estimate (held s) t) after (subst (λ t. Keeps relation estimate t (lent.sheet_of head' nodes' columns')) before k)
 
@@ -47,7 +47,7 @@ module _ {K E A : Type 0} (s : Sheet K E A) where
       kept : lent.sheet_of head' nodes columns ≡ held (new_head head')
       kept = λ i. lent.sheet_of head' (nodes-lent i) (columns-lent i)
 
-      outcome_of_head : {relation : K → K → Relation} {estimate : Question K → Option Figure} {call : Call K} {r : Result ℕ Refusal} → Outcome relation estimate call (lent.sheet_of s.head nodes columns) r (lent.sheet_of head' nodes columns) → Outcome relation estimate call (held s) r (held (new_head head'))
+      pub outcome_of_head : {relation : K → K → Relation} {estimate : Question K → Option Figure} {call : Call K} {r : Result ℕ Refusal} → Outcome relation estimate call (lent.sheet_of s.head nodes columns) r (lent.sheet_of head' nodes columns) → Outcome relation estimate call (held s) r (held (new_head head'))
       outcome_of_head {relation} {estimate} {call} {r} o =
           subst (λ t. Outcome relation estimate call (held s) r t) kept (subst (λ t. Outcome relation estimate call t r (lent.sheet_of head' nodes columns)) before o)
 

@@ -10,10 +10,10 @@ use Rattle.stats.specs.Precisions.{known, AtMost}
 use Rattle.stats.specs.Scaling.{ceiling, part_of, scaled, Scales}
 
 module _ (a b : ℕ) (B : 0 < b) where
-  enough : a ≤ ceiling a b * b
+  pub enough : a ≤ ceiling a b * b
   enough = (div_ceil_times a b B).0
 
-  least : (j : ℕ) → a ≤ j * b → ceiling a b ≤ j
+  pub least : (j : ℕ) → a ≤ j * b → ceiling a b ≤ j
   least j h =
       ⊎_elim
       (λ l.
@@ -24,11 +24,11 @@ module _ (a b : ℕ) (B : 0 < b) where
       (cases_lt j (ceiling a b))
 
 -- a part of no more rows: at most the whole count
-part_fewer : (c n m : ℕ) → 0 < n → m ≤ n → ceiling (c * m) n ≤ c
+pub part_fewer : (c n m : ℕ) → 0 < n → m ≤ n → ceiling (c * m) n ≤ c
 part_fewer c n m N h = least (c * m) n N c (mul-le-mul_left c h)
 
 -- rounding up does not pass the number that is divided
-ceiling_le : (a b : ℕ) → 0 < b → ceiling a b ≤ a
+pub ceiling_le : (a b : ℕ) → 0 < b → ceiling a b ≤ a
 ceiling_le a b B = least a b B a (let m : a * 1 ≤ a * b = mul-le-mul_left a B in omega (arith, mul-one a))
 
 module _ (c n m : ℕ) where
