@@ -3,7 +3,7 @@
 //! estimates the joins of one house's members to its payments.
 #![tactic(auto)]
 
-ghost use Rattle.std.specs.Prelude.{◌≡◌};
+ghost use Rattle.std.specs.Prelude.{◌≡◌, ◌≤◌};
 ghost use Rattle.planner.specs.Tables.{keyed, payers_of};
 
 mod tables;
@@ -12,7 +12,7 @@ use estimators::{Chain, Product, Widest};
 use keys::Whole;
 use questions::JoinType;
 use stats::{ColumnStatistics, Precision, max_distinct_count};
-use std::io;
+use std::{fmt, io};
 use tables::{KeyedRows, first_rows, join_rows, total_rows};
 
 /// A table of a house: its payments, each with the number of its payer, or its
@@ -54,16 +54,29 @@ fn known_payers(
     }
 }
 
-/// A label, and counts below the heads of their columns.
-// The whole line is made before it is printed, so that it goes out in one write or not at
-// all. The statement has the same loop: they are two programs, and no crate below prints.
-fn print_line(rt: &HostRuntime, label: &str, counts: &[Precision<u64>]) -> io::Result<()> {
-    let mut line = format!(in rt.alloc(); "{label:<24}")?;
-    for count in counts {
-        let count = count.to_string(rt.alloc())?;
-        write!(line, "{count:>9}")?;
+/// Texts below the heads of their columns.
+#[derive(Clone, Copy)]
+struct Cells<'a>(&'a [String]);
+
+impl fmt::Display for Cells<'_> {
+    fn fmt<W: fmt::Write>(&self, f: &mut fmt::Formatter<W>) -> fmt::Result {
+        for text in self.0 {
+            write!(f, "{text:>9}")?;
+        }
+        Ok(())
     }
-    println!(rt; "{line}")
+}
+
+/// A label, and counts below the heads of their columns.
+fn print_line<const N: usize>(
+    rt: &HostRuntime,
+    label: &str,
+    counts: [Precision<u64>; N],
+) -> io::Result<()>
+    requires { N ≤ 5 }
+{
+    let texts = counts.try_map(|count| count.to_string(rt.alloc()))?;
+    println!(rt; "{label:<24}{}", Cells(&texts))
 }
 
 fn print_tables(rt: &HostRuntime, houses: &[Table]) -> io::Result<()> {
@@ -73,7 +86,7 @@ fn print_tables(rt: &HostRuntime, houses: &[Table]) -> io::Result<()> {
         let most = max_distinct_count(table.rows, &payer);
         let (nulls, payers) = (payer.null_count, payer.distinct_count);
         let counts = [table.rows, table.bytes, nulls, payers, most];
-        print_line(rt, table.house, &counts)?;
+        print_line(rt, table.house, counts)?;
     }
     println!(rt)
 }
@@ -82,7 +95,7 @@ fn print_parts(rt: &HostRuntime, houses: &[Table]) -> io::Result<()> {
     println!(rt; "the first 500 of             rows    bytes    nulls")?;
     for table in houses {
         let part = first_rows(table.rows, table.bytes, table.payer.null_count, 500);
-        print_line(rt, table.house, &[part.rows, part.bytes, part.nulls])?;
+        print_line(rt, table.house, [part.rows, part.bytes, part.nulls])?;
     }
     println!(rt)
 }
@@ -105,7 +118,7 @@ fn print_sums(
         ("Alder over Cedar", a.sub(c)),
     ];
     for (label, rows) in sums {
-        print_line(rt, label, &[rows])?;
+        print_line(rt, label, [rows])?;
     }
     println!(rt)
 }
@@ -126,7 +139,7 @@ fn print_joins(rt: &HostRuntime, members: &Table, payments: &Table) -> io::Resul
         let widest = join_rows(&Widest, join_type, left, right);
         let product = join_rows(&Product, join_type, left, right);
         let either = join_rows(&chain, join_type, left, right);
-        print_line(rt, label, &[widest, product, either])?;
+        print_line(rt, label, [widest, product, either])?;
     }
     Ok(())
 }

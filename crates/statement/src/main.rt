@@ -3,6 +3,8 @@
 //! order that the keys allow, chooses one, and sizes the parts of the report.
 #![tactic(auto)]
 
+ghost use Rattle.std.specs.Prelude.{◌≤◌};
+
 use estimators::{Chain, Product, Widest};
 use keys::Whole;
 use orders::{Order, Table, choose, cost, orders};
@@ -11,7 +13,7 @@ use sheet::{AggregateMode, Grouping, Join, Refusal};
 use sheets::Sheet;
 use stats::{ColumnStatistics, Precision};
 use std::alloc::Global;
-use std::fmt::Display;
+use std::fmt::{self, Display};
 use std::io;
 
 const NONE: Precision<u64> = Precision::Absent;
@@ -34,18 +36,26 @@ fn numbers(nulls: u64, distincts: u64, highest: i64) -> ColumnStatistics<Whole> 
     }
 }
 
+/// Texts below the heads of their columns.
+#[derive(Clone, Copy)]
+struct Cells<'a>(&'a [String]);
+
+impl fmt::Display for Cells<'_> {
+    fn fmt<W: fmt::Write>(&self, f: &mut fmt::Formatter<W>) -> fmt::Result {
+        for text in self.0 {
+            write!(f, "{text:>9}")?;
+        }
+        Ok(())
+    }
+}
+
 // A refused step is printed and the report goes on, so its Result is passed on as a value.
 impl Report<'_> {
-    /// The head of a line, and counts below the heads of their columns.
-    // The whole line is made before it is printed, so that it goes out in one write or not at
-    // all. The planner has the same loop: they are two programs, and no crate below prints.
-    fn print_line(&self, head: String, counts: &[Precision<u64>]) -> io::Result<()> {
-        let mut line = head;
-        for count in counts {
-            let count = count.to_string(self.rt.alloc())?;
-            write!(line, "{count:>9}")?;
-        }
-        println!(self.rt; "{line}")
+    /// The texts of counts: all are made before anything of their line is printed.
+    fn texts_of<const N: usize>(&self, counts: [Precision<u64>; N]) -> io::Result<[String; N]>
+        requires { N ≤ 4 }
+    {
+        Ok(counts.try_map(|count| count.to_string(self.rt.alloc()))?)
     }
 
     fn print_refusal(&self, label: impl Display + Copy, refusal: Refusal) -> io::Result<()> {
@@ -66,8 +76,8 @@ impl Report<'_> {
         };
         let operator = node.operator;
         let figure = node.figure.map_or(NONE, Precision::from);
-        let head = format!(in self.rt.alloc(); "{number:>3}  {label:<26}{operator:<16}")?;
-        self.print_line(head, &[node.rows, node.bytes, figure])
+        let texts = self.texts_of([node.rows, node.bytes, figure])?;
+        println!(self.rt; "{number:>3}  {label:<26}{operator:<16}{}", Cells(&texts))
     }
 
     fn rows_of(&self, answer: Result<usize, Refusal>) -> Precision<u64> {
@@ -118,8 +128,8 @@ impl Report<'_> {
         let [one, two, three] = self.join_all(order).map(|answer| self.rows_of(answer));
         let all = cost(&[one, two, three]);
         let [a, b, c, d] = order.tables;
-        let head = format!(in self.rt.alloc(); "     {a:<9}{b:<9}{c:<9}{d:<9}")?;
-        self.print_line(head, &[one, two, three, all])?;
+        let texts = self.texts_of([one, two, three, all])?;
+        println!(self.rt; "     {a:<9}{b:<9}{c:<9}{d:<9}{}", Cells(&texts))?;
         if let Err(refusal) = self.sheet.cut(Table::Lifts.number()) {
             self.print_refusal("cut", refusal)?;
         }
@@ -175,8 +185,8 @@ impl Report<'_> {
         self.print_node("who paid", paid)?;
         let unpaid = self.join_by(JoinType::LeftAnti, members, payments, pair);
         self.print_node("who did not", unpaid)?;
-        let head = format!(in self.rt.alloc(); "     {:<42}", "both together")?;
-        self.print_line(head, &[self.rows_of(paid).add(self.rows_of(unpaid))])
+        let texts = self.texts_of([self.rows_of(paid).add(self.rows_of(unpaid))])?;
+        println!(self.rt; "     {:<42}{}", "both together", Cells(&texts))
     }
 
     /// A page of the statement, the payments of each payer, and those of two houses.
