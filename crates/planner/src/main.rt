@@ -55,6 +55,8 @@ fn known_payers(
 }
 
 /// Texts below the heads of their columns.
+// All are made before their line is printed, by one call, so that it goes out in one write or
+// not at all. The statement has the same: they are two programs, and no crate below prints.
 #[derive(Clone, Copy)]
 struct Cells<'a>(&'a [String]);
 

@@ -37,6 +37,8 @@ fn numbers(nulls: u64, distincts: u64, highest: i64) -> ColumnStatistics<Whole> 
 }
 
 /// Texts below the heads of their columns.
+// All are made before their line is printed, by one call, so that it goes out in one write or
+// not at all. The planner has the same: they are two programs, and no crate below prints.
 #[derive(Clone, Copy)]
 struct Cells<'a>(&'a [String]);
 
